@@ -1,0 +1,17 @@
+-- RFC 3629's own examples, a row each: the bytes, and whether they are UTF-8. `proofs/Utf8Cases.antt` has the theorem over the rows.
+-- Assumes nothing.
+use Prim.Native.Nat.{ℕ}
+use mathlib.Core.Bool.{Bool, true, false}
+use mathlib.Core.List.{List, [], _∷_}
+
+-- section 7: four texts; section 3: an overlong NUL and a surrogate pair; section 10: "/../" with an overlong dot
+abbrev pub cases : List (List ℕ × Bool)
+cases =
+    (0x41 ∷ 0xe2 ∷ 0x89 ∷ 0xa2 ∷ 0xce ∷ 0x91 ∷ 0x2e ∷ [], true)
+    ∷ (0xed ∷ 0x95 ∷ 0x9c ∷ 0xea ∷ 0xb5 ∷ 0xad ∷ 0xec ∷ 0x96 ∷ 0xb4 ∷ [], true)
+    ∷ (0xe6 ∷ 0x97 ∷ 0xa5 ∷ 0xe6 ∷ 0x9c ∷ 0xac ∷ 0xe8 ∷ 0xaa ∷ 0x9e ∷ [], true)
+    ∷ (0xef ∷ 0xbb ∷ 0xbf ∷ 0xf0 ∷ 0xa3 ∷ 0x8e ∷ 0xb4 ∷ [], true)
+    ∷ (0xc0 ∷ 0x80 ∷ [], false)
+    ∷ (0xed ∷ 0xa1 ∷ 0x8c ∷ 0xed ∷ 0xbe ∷ 0xb4 ∷ [], false)
+    ∷ (0x2f ∷ 0xc0 ∷ 0xae ∷ 0x2e ∷ 0x2f ∷ [], false)
+    ∷ []
