@@ -58,7 +58,9 @@ pub fn flag(b: bool) {
     }
 }
 
-pub fn size(x: u8) -> usize {
+pub fn size(x: u8) -> usize
+    ensures { λ r. ⌜ r < 256 ⌝ }
+{
     x as usize
 }
 

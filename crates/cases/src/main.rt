@@ -3,6 +3,9 @@
 mod bytes;
 mod hex;
 mod number;
+mod reading;
+mod values;
+mod writing;
 
 ghost use Prim.Native.Nat.{_≤_};
 ghost use lib.ListN.{length};
@@ -31,6 +34,8 @@ fn case(letter: u8, given: &[u8]) {
         b'u' => bytes::utf8(given),
         b'r' => bytes::reads(given),
         b's' => bytes::same(given),
+        b'a' => values::case(given),
+        b'm' => reading::case(given),
         _ => hex::word(b"unknown letter"),
     }
 }
@@ -43,6 +48,16 @@ fn line(s: &[u8], given: &mut [u8], out: &mut [u8]) {
     let n = hex::decode(&s[2..], given);
     if letter == b'w' {
         bytes::writes(&given[0..n], out);
+        hex::word(b"\n");
+        return;
+    }
+    if letter == b'b' {
+        writing::case(&given[0..n], out);
+        hex::word(b"\n");
+        return;
+    }
+    if letter == b'e' {
+        reading::events(&given[0..n], out);
         hex::word(b"\n");
         return;
     }
@@ -67,6 +82,6 @@ fn all(space: &mut [u8], given: &mut [u8], out: &mut [u8]) {
 fn main() {
     let mut space = [0u8; 2097152];
     let mut given = [0u8; 131072];
-    let mut out = [0u8; 64];
+    let mut out = [0u8; 2048];
     all(&mut space, &mut given, &mut out);
 }

@@ -10,7 +10,7 @@ given : tie.Need-slice-aggregate-all-2
 given c = zeros 131072
 
 out : tie.Need-slice-aggregate-all-3
-out c = zeros 64
+out c = zeros 2048
 
 pub main-spec : {M : Type 1} → statement M
 main-spec = tie.close (tie.spec space given out (λ c κs. tt) (λ c. tt))

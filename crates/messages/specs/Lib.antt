@@ -1,0 +1,7 @@
+-- The definitions that the contracts cite.
+pub mod Incoming
+pub mod Places
+pub mod Steps
+pub mod Notice
+pub mod Metadata
+pub mod Starred

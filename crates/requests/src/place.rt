@@ -1,0 +1,160 @@
+// One of the eight places, and the searches through all of them.
+use crate::outstanding_transaction::OutstandingTransaction;
+use crate::text::Text;
+use messages::TransactionNumber;
+ghost use mathlib.Core.Path.{_≡_};
+ghost use mathlib.Core.Bool.{cond};
+ghost use lib.ListN.{drop};
+ghost use Rattle.requests.specs.Places.{emptyPlace, isFree, openAs, lookup, without as withoutOf, freePlace, hasNumber, placeSound, placesSound};
+ghost use Rattle.requests.specs.Search.{requestIn};
+
+pub enum Slot {
+    Free,
+    Open(TransactionNumber, OutstandingTransaction),
+}
+
+// What stands in the text of a free place never matters.
+pub struct Place {
+    pub slot: Slot,
+    pub text: Text,
+}
+
+// A place with no request.
+pub fn empty_place() -> Place
+    ensures { λ r. ⌜ r ≡ emptyPlace ⌝ }
+{
+    Place {
+        slot: Slot::Free,
+        text: Text::new(b""),
+    }
+}
+
+fn is_free(place: Place) -> bool
+    ensures { λ r. ⌜ r ≡ isFree (place .slot) ⌝ }
+{
+    let slot = place.slot;
+    match slot {
+        Slot::Free => true,
+        Slot::Open(_, _) => false,
+    }
+}
+
+// Whether the place is open under the number.
+fn open_as(place: Place, number: u32) -> bool
+    ensures { λ r. ⌜ r ≡ openAs number (place .slot) ⌝ }
+{
+    let slot = place.slot;
+    match slot {
+        Slot::Free => false,
+        Slot::Open(n, _) => n.0 == number,
+    }
+}
+
+// The first place that is free, or 8 where none is.
+pub fn first_free(places: [Place; 8]) -> usize
+    ensures { λ r. ⌜ r ≡ freePlace places ⌝ }
+{
+    let mut i: usize = 0;
+    while i < 8 {
+        let place = places[i];
+        if is_free(place) {
+            return i;
+        }
+        i += 1;
+    }
+    i
+}
+
+// The place that is open under the number, the first if there are several; an empty one where there is none.
+pub fn find(places: [Place; 8], number: u32) -> Place
+    ensures { λ r. ⌜ requestIn (r .slot) (r .text) ≡ lookup number places ⌝ }
+{
+    let mut i: usize = 0;
+    while i < 8 {
+        let place = places[i];
+        if open_as(place, number) {
+            return place;
+        }
+        i += 1;
+    }
+    empty_place()
+}
+
+// The place, emptied if it is open under the number.
+fn emptied(place: Place, number: u32) -> Place
+    ensures { λ r. ⌜ r ≡ cond (openAs number (place .slot)) emptyPlace place ⌝ }
+{
+    if open_as(place, number) {
+        return empty_place();
+    }
+    place
+}
+
+// The places with the request under the number closed.
+pub fn without(places: [Place; 8], number: u32) -> [Place; 8]
+    ensures { λ r. ⌜ r ≡ withoutOf number places ⌝ }
+{
+    let mut rest = places;
+    let mut i: usize = 0;
+    while i < 8 {
+        let place = rest[i];
+        rest[i] = emptied(place, number);
+        i += 1;
+    }
+    rest
+}
+
+// Whether a place at `from` or after is open under the number.
+fn has_number(places: [Place; 8], from: usize, number: u32) -> bool
+    ensures { λ r. ⌜ r ≡ hasNumber number (drop from places) ⌝ }
+{
+    let mut i = from;
+    while i < 8 {
+        let place = places[i];
+        if open_as(place, number) {
+            return true;
+        }
+        i += 1;
+    }
+    false
+}
+
+// Whether a place is such as a session has, the others being those from `from` on.
+fn place_sound(place: Place, places: [Place; 8], from: usize, next: u64) -> bool
+    ensures { λ r. ⌜ r ≡ placeSound next (place .slot) (place .text) (drop from places) ⌝ }
+{
+    let slot = place.slot;
+    match slot {
+        Slot::Free => true,
+        Slot::Open(number, _) => {
+            let n = number.0;
+            if n == 0 {
+                return false;
+            }
+            if next <= n as u64 {
+                return false;
+            }
+            if has_number(places, from, n) {
+                return false;
+            }
+            let text = place.text;
+            text.sound()
+        }
+    }
+}
+
+// Whether the places are such as a session has.
+pub fn places_sound(places: [Place; 8], next: u64) -> bool
+    ensures { λ r. ⌜ r ≡ placesSound next places ⌝ }
+{
+    let mut i: usize = 0;
+    while i < 8 {
+        let place = places[i];
+        if place_sound(place, places, i + 1, next) {
+            i += 1;
+        } else {
+            return false;
+        }
+    }
+    true
+}

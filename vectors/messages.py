@@ -1,0 +1,531 @@
+#!/usr/bin/env python3
+"""Writes messages.txt beside this script: bodies by message type and what a reader has to answer of each.
+
+The reader here is written from Adobe's "RTMP 1.0" (sections 5.4 and 7.1), Adobe's "Action Message Format - AMF 0" and document 01,
+"Bodies": lengths are exact; type 17 passes over one leading 0; the AMF0 markers are 00, 01, 02, 03, 05, 06, 08 and 0a and no other; texts
+are UTF-8 (RFC 3629); an empty name stands only before 09; of equal names the later holds, and then its kind is judged; a value at the top
+has depth 1, and depth 9 is malformed. Whole fields are held within 32 bits, and a frame rate is the nearest single, a tie to the even one.
+
+Each line has three fields with tabs between them: the type in 2 hexadecimal digits, the body in hexadecimal (`-` for none), the answer:
+  malformed   unknown   audio   video   data
+  chunk N   abort N   ack N   window N   bandwidth N hard|soft|dynamic
+  begin N   eof N   dry N   buffer N MS   recorded N   ping N   pong N
+  command NAME START LEN NUMBER OBJECT ARGS FIRST, with NAME result, error, onstatus or other, the place and length of its bytes, the
+    Number's pattern in 16 digits, the places of the object and of the arguments, and FIRST absent, `number PATTERN`, object or other. Of
+    an onStatus with an object first its code follows: play, publish, `other START LEN` or invalid
+  metadata PLACE and eleven fields in order, each `-` or its value: whole numbers, the rate as the single's 8 digits, stereo 0 or 1, the
+    encoder as START,LEN
+"""
+import os
+import random
+import struct
+
+DEPTH = 8
+
+
+class Bad(Exception):
+    pass
+
+
+# ---- AMF0: a value is (kind, what it holds, where it starts, the place after it)
+
+
+def take(s, at, n):
+    if at + n > len(s):
+        raise Bad
+    return s[at:at + n], at + n
+
+
+def uint(s, at, n):
+    b, at = take(s, at, n)
+    return int.from_bytes(b, 'big'), at
+
+
+def utf8(s, at):
+    n, at = uint(s, at, 2)
+    t, at = take(s, at, n)
+    try:
+        t.decode('utf-8')
+    except UnicodeDecodeError:
+        raise Bad
+    return t, at
+
+
+def properties(s, at, depth):
+    found = []
+    while True:
+        name, at = utf8(s, at)
+        if name == b'':
+            if uint(s, at, 1)[0] != 0x09:
+                raise Bad
+            return found, at + 1
+        v, at = value(s, at, depth)
+        found.append((name, v))
+
+
+def value(s, at, depth=1):
+    if depth > DEPTH:
+        raise Bad
+    start = at
+    m, at = uint(s, at, 1)
+    if m == 0x00:
+        n, at = uint(s, at, 8)
+        return ('number', n), at
+    if m == 0x01:
+        b, at = uint(s, at, 1)
+        return ('boolean', b != 0), at
+    if m == 0x02:
+        t, at = utf8(s, at)
+        return ('text', (at - len(t), len(t), t)), at
+    if m == 0x03:
+        ps, at = properties(s, at, depth + 1)
+        return ('object', ps), at
+    if m == 0x05 or m == 0x06:
+        return ('empty', None), at
+    if m == 0x08:
+        at = uint(s, at, 4)[1]
+        ps, at = properties(s, at, depth + 1)
+        return ('object', ps), at
+    if m == 0x0a:
+        n, at = uint(s, at, 4)
+        for _ in range(n):
+            at = value(s, at, depth + 1)[1]
+        return ('array', None), at
+    raise Bad
+
+
+def values(s, at):
+    vs = []
+    while at < len(s):
+        v, at = value(s, at)
+        vs.append(v)
+    return vs
+
+
+def last(ps, name):
+    found = ('absent', None)
+    for n, v in ps:
+        if n == name:
+            found = v
+    return found
+
+
+# ---- numbers
+
+
+def held(bits):
+    x = struct.unpack('>d', bits.to_bytes(8, 'big'))[0]
+    if x != x or x <= 0:
+        return 0
+    return 4294967295 if x >= 4294967295 else int(x)
+
+
+def single(bits):
+    """The pattern of the nearest single: the double is m * 2 ** e, and its single a whole number of units of 2 ** u."""
+    sign, field, digits = bits >> 63 << 31, bits >> 52 & 0x7ff, bits & (1 << 52) - 1
+    if field == 0x7ff:
+        return 0x7fc00000 if digits else sign | 0x7f800000
+    m, e = (digits, -1074) if field == 0 else (digits | 1 << 52, field - 1075)
+    if m == 0:
+        return sign
+    u = max(m.bit_length() + e - 24, -149)
+    if e >= u:
+        q = m << (e - u)
+    else:
+        q, r = divmod(m, 1 << (u - e))
+        half = 1 << (u - e - 1)
+        if r > half or (r == half and q % 2 == 1):
+            q += 1
+    if q == 1 << 24:
+        q, u = q >> 1, u + 1
+    if q < 1 << 23:
+        return sign | q
+    if u > 104:
+        return sign | 0x7f800000
+    return sign | (u + 150) << 23 | q - (1 << 23)
+
+
+# ---- bodies
+
+FIELDS = [b'width', b'height', b'videocodecid', b'framerate', b'videodatarate', b'audiocodecid', b'audiodatarate', b'audiosamplerate',
+          b'audiochannels', b'stereo', b'encoder']
+LIMITS = ['hard', 'soft', 'dynamic']
+EVENTS = {0: 'begin', 1: 'eof', 2: 'dry', 4: 'recorded', 6: 'ping', 7: 'pong'}
+NAMES = {b'_result': 'result', b'_error': 'error', b'onStatus': 'onstatus'}
+CODES = {b'NetStream.Play.Start': 'play', b'NetStream.Publish.Start': 'publish'}
+
+
+def exactly(s, n):
+    if len(s) != n:
+        raise Bad
+    return s
+
+
+def word(s):
+    return int.from_bytes(exactly(s, 4), 'big')
+
+
+def event(s):
+    e, at = uint(s, 0, 2)
+    if e in EVENTS:
+        return '%s %d' % (EVENTS[e], word(s[at:]))
+    if e == 3:
+        exactly(s, 10)
+        return 'buffer %d %d' % (word(s[2:6]), word(s[6:10]))
+    raise Bad
+
+
+def bandwidth(s):
+    exactly(s, 5)
+    if s[4] > 2:
+        raise Bad
+    return 'bandwidth %d %s' % (word(s[:4]), LIMITS[s[4]])
+
+
+def code(v):
+    kind, what = last(v[1], b'code')
+    if kind != 'text':
+        return 'invalid'
+    return CODES.get(what[2], 'other %d %d' % what[:2])
+
+
+def command(s, at):
+    (kind, name), at = value(s, at)
+    if kind != 'text':
+        raise Bad
+    (kind, number), at = value(s, at)
+    if kind != 'number':
+        raise Bad
+    place = at
+    at = value(s, at)[1]
+    vs = values(s, at)
+    word = NAMES.get(name[2], 'other')
+    if not vs:
+        first = 'absent'
+    elif vs[0][0] == 'number':
+        first = 'number %016x' % vs[0][1]
+    elif vs[0][0] == 'object':
+        first = 'object'
+        if word == 'onstatus':
+            first += ' ' + code(vs[0])
+    else:
+        first = 'other'
+    return 'command %s %d %d %016x %d %d %s' % (word, name[0], name[1], number, place, at, first)
+
+
+def field(name, v):
+    kind, what = v
+    if name == b'framerate':
+        return '%08x' % single(what) if kind == 'number' else '-'
+    if name == b'stereo':
+        return '%d' % what if kind == 'boolean' else '-'
+    if name == b'encoder':
+        return '%d,%d' % what[:2] if kind == 'text' else '-'
+    return '%d' % held(what) if kind == 'number' else '-'
+
+
+def data(s):
+    vs = values(s, 0)
+    if len(vs) >= 2 and vs[0][0] == 'text' and vs[0][1][2] == b'onMetaData' and vs[1][0] == 'object':
+        place = value(s, 0)[1]
+        return 'metadata %d %s' % (place, ' '.join(field(n, last(vs[1][1], n)) for n in FIELDS))
+    return 'data'
+
+
+def answer(t, s):
+    try:
+        if t in (1, 2, 3, 5):
+            return '%s %d' % ({1: 'chunk', 2: 'abort', 3: 'ack', 5: 'window'}[t], word(s))
+        if t == 4:
+            return event(s)
+        if t == 6:
+            return bandwidth(s)
+        if t in (8, 9):
+            return 'audio' if t == 8 else 'video'
+        if t in (15, 18):
+            return data(s)
+        if t == 20:
+            return command(s, 0)
+        if t == 17:
+            return command(s, 1 if s[:1] == b'\0' else 0)
+        return 'unknown'
+    except Bad:
+        return 'malformed'
+
+
+# ---- bodies to ask about
+
+
+def be(n, x):
+    return x.to_bytes(n, 'big')
+
+
+def num(x):
+    return b'\0' + (be(8, x) if isinstance(x, int) else struct.pack('>d', x))
+
+
+def bool_(b):
+    return bytes([1, b])
+
+
+def text(t):
+    return b'\x02' + be(2, len(t)) + t
+
+
+def props(ps):
+    return b''.join(be(2, len(n)) + n + v for n, v in ps) + b'\0\0\x09'
+
+
+def obj(*ps):
+    return b'\x03' + props(ps)
+
+
+def ecma(*ps, n=0):
+    return b'\x08' + be(4, n) + props(ps)
+
+
+def strict(*vs):
+    return b'\x0a' + be(4, len(vs)) + b''.join(vs)
+
+
+NULL, UNDEFINED = b'\x05', b'\x06'
+ONE = num(1.0)
+OTHERS = [num(1.0), bool_(0), bool_(1), bool_(255), text(b''), text(b'x'), obj(), obj((b'a', NULL)), ecma(n=7), NULL, UNDEFINED, strict(),
+          strict(NULL, ONE)]
+BROKEN = [b'\x04', b'\x07', b'\x09', b'\x0b', b'\x0c', b'\x11', b'\xff', b'\x00', b'\x01', b'\x02', b'\x02\0', b'\x02\0\1', b'\x03', b'\x03\0\0',
+          b'\x03\0\0\x05', b'\x03\0\0\x09\x09', b'\x08\0\0\0\0', b'\x0a\0\0\0\1', b'\x02\0\1\x80', b'\x02\0\2\xc0\x80', b'\x02\0\3\xed\xa0\x80',
+          b'\x03\0\1\xff\x05\0\0\x09', b'\x0a\xff\xff\xff\xff\x05']
+
+
+def nest(n, v, wrap):
+    for _ in range(n):
+        v = wrap(v)
+    return v
+
+
+def deep(n):
+    return [nest(n, NULL, lambda v: strict(v)), nest(n, NULL, lambda v: obj((b'a', v))), nest(n, obj(), lambda v: ecma((b'a', v)))]
+
+
+def cmd(name, number=1.0, thing=NULL, *args):
+    return text(name) + num(number) + thing + b''.join(args)
+
+
+PATTERNS = [0, 1, 0x000fffffffffffff, 0x0010000000000000, 0x3fefffffffffffff, 0x3ff0000000000000, 0x3ffe666666666666, 0x4000000000000000,
+            0x403df851eb851eb8, 0x403df851e0000000, 0x41dfffffffc00000, 0x41efffffffe00000, 0x41efffffffffffff, 0x41f0000000000000,
+            0x7fefffffffffffff, 0x7ff0000000000000, 0x7ff0000000000001, 0x7ff8000000000000, 0x7fffffffffffffff, 0x8000000000000000,
+            0xbff0000000000000, 0xc008000000000000, 0xfff0000000000000, 0xfff8000000000000, 0xffffffffffffffff]
+# doubles around singles: ties to even down and up, just beside them, the largest single, the smallest, subnormals
+RATES = [0x3ff0000010000000, 0x3ff0000010000001, 0x3ff000000fffffff, 0x3ff0000030000000, 0x3ff000002fffffff, 0x3ff0000030000001,
+         0x3fffffffe0000000, 0x3ffffffff0000000, 0x3fffffffefffffff, 0x47efffffe0000000, 0x47efffffefffffff, 0x47effffff0000000, 0x47f0000000000000,
+         0x380fffffc0000000, 0x380fffffe0000000, 0x380fffffdfffffff, 0x380ffffffffffffe, 0x3810000000000000, 0x36a0000000000000, 0x3690000000000000,
+         0x3690000000000001, 0x368fffffffffffff, 0x36b0000000000000, 0x36a8000000000000, 0x36b4000000000000, 0x36b8000000000000, 0x369fffffffffffff,
+         0xb690000000000000, 0xb690000000000001, 0xb810000000000000, 0xc7effffff0000000, 0xc7efffffefffffff, 0x4039000000000000, 0x404dffffffffffff]
+
+
+def meta(*ps, make=obj):
+    return text(b'onMetaData') + make(*ps)
+
+
+def good(name):
+    if name == b'stereo':
+        return bool_(1)
+    return text(b'OBS') if name == b'encoder' else num(5.0)
+
+
+FULL = meta((b'width', num(1920.0)), (b'height', num(1080.0)), (b'videocodecid', num(7.0)), (b'framerate', num(29.97)),
+            (b'videodatarate', num(2500.0)), (b'audiocodecid', num(10.0)), (b'audiodatarate', num(160.5)), (b'audiosamplerate', num(48000.0)),
+            (b'audiochannels', num(2.0)), (b'stereo', bool_(1)), (b'encoder', text(b'OBS 30')))
+RESULT = cmd(b'_result', 1.0, obj((b'fmsVer', text(b'FMS/3,5')), (b'mode', num(1.0))), obj((b'code', text(b'Connect.Success')), (b'x', NULL)))
+START = cmd(b'onStatus', 0.0, NULL, obj((b'level', text(b'status')), (b'code', text(b'NetStream.Play.Start'))))
+
+
+def plain():
+    for t in range(256):
+        yield t, b''
+        yield t, b'\0\0\0\x05'
+    for t in (1, 2, 3, 5):
+        for n in range(7):
+            yield t, bytes(range(1, n + 1))
+        for x in (0, 1, 128, 2147483647, 2147483648, 4294967295):
+            yield t, be(4, x)
+    for n in range(8):
+        yield 6, bytes(range(n))
+    for limit in range(256):
+        if limit < 8 or limit % 31 == 0:
+            yield 6, be(4, 5000000) + bytes([limit])
+    for x in (0, 4294967295):
+        yield 6, be(4, x) + b'\x01'
+    for t in (8, 9):
+        yield t, b'\0'
+        yield t, bytes(range(200))
+
+
+def events():
+    for e in list(range(301)) + [301, 511, 512, 768, 1024, 1536, 1792, 0x3fff, 0x8000, 0x8003, 0xff00, 0xff03, 0xfffe, 0xffff]:
+        yield 4, be(2, e) + be(4, 7)
+        yield 4, be(2, e) + be(4, 1) + be(4, 2000)
+    for e in range(8):
+        for n in range(0, 12) if e in (3, 5, 6) else (3, 5, 7, 9):
+            yield 4, be(2, e) + bytes(range(n))
+        for x in (0, 0x01020304, 4294967295):
+            yield 4, be(2, e) + be(4, x)
+            yield 4, be(2, e) + be(4, x) + be(4, 4294967295 - x)
+    yield 4, b'\0'
+
+
+def commands():
+    for name in (b'_result', b'_error', b'onStatus', b'connect', b'createStream', b'', b'_', b'_resul', b'_results', b'_Result', b'result', b'_erro',
+                 b'_errors', b'onStatu', b'onStatuses', b'onstatus', b'onStatus\0', b'\0onStatus', 'é'.encode(), b'x' * 300):
+        yield cmd(name)
+        yield cmd(name, 1.9, NULL, ONE)
+        yield cmd(name, 0.0, NULL, obj((b'code', text(b'c'))))
+    for p in PATTERNS:
+        yield text(b'_result') + num(p) + NULL + num(p)
+    for v in OTHERS:
+        yield v + ONE + NULL                          # what stands for the name
+        yield text(b'_result') + v + NULL             # for the number
+        yield cmd(b'_result', 1.0, v)                 # for the object
+        yield cmd(b'_result', 1.0, NULL, v)           # for the first argument
+        yield cmd(b'_error', 1.0, v, v, v)
+        yield cmd(b'onStatus', 0.0, NULL, v)
+    for v in BROKEN:
+        yield v
+        yield text(b'_result') + v
+        yield cmd(b'_result', 1.0, v)
+        yield cmd(b'_result', 1.0, NULL, v)
+        yield cmd(b'onStatus', 0.0, NULL, obj((b'code', text(b'c'))), v)
+    for n in (6, 7, 8):
+        for v in deep(n):
+            yield cmd(b'_result', 1.0, v)
+            yield cmd(b'_result', 1.0, NULL, v)
+    yield cmd(b'_result', 1.0, NULL, *OTHERS)
+    yield b''
+    yield text(b'_result')
+    yield text(b'_result') + ONE
+    for n in range(len(RESULT) + 1):
+        yield RESULT[:n]
+    for n in range(0, len(START) + 1, 3):
+        yield START[:n]
+    yield RESULT + NULL
+    yield RESULT + b'\x04'
+
+
+def notices():
+    codes = [b'NetStream.Play.Start', b'NetStream.Publish.Start', b'NetStream.Play.Reset', b'NetStream.Play.Star', b'NetStream.Play.Start2', b'',
+             b'netstream.play.start', b'NetStream.Publish.Star', b'NetStream.Publish.Start ', 'NetStream.Pl\u00e4y'.encode(), b'x' * 260]
+    for make in (obj, ecma):
+        for c in codes:
+            yield make((b'code', text(c)))
+            yield make((b'level', text(b'status')), (b'code', text(c)), (b'description', text(b'd')))
+            yield make((b'code', NULL), (b'code', text(c)))
+            yield make((b'code', text(c)), (b'code', NULL))
+            yield make((b'code', text(c)), (b'code', text(b'other')))
+            yield make((b'code', text(b'other')), (b'code', text(c)))
+            yield make((b'x', obj((b'code', text(c)))))
+        for v in OTHERS:
+            yield make((b'code', v))
+        for n in (b'Code', b'cod', b'codes', b'x'):
+            yield make((n, text(b'NetStream.Play.Start')))
+        yield make()
+        yield make((b'', text(b'a')))
+    yield strict(obj((b'code', text(b'NetStream.Play.Start'))))
+    yield NULL + obj((b'code', text(b'NetStream.Play.Start')))
+    yield obj((b'code', text(b'NetStream.Play.Start'))) + NULL
+    yield b''
+
+
+def metadata():
+    yield FULL
+    yield FULL.replace(b'\x03\0\x05width', b'\x08\0\0\0\x0b\0\x05width')
+    for n in range(len(FULL)):
+        yield FULL[:n]
+    for make in (obj, ecma):
+        for name in FIELDS if make == obj else FIELDS[::3]:
+            yield meta((name, good(name)), make=make)
+            yield meta(*[(n, good(n)) for n in FIELDS if n != name], make=make)
+            for v in OTHERS if make == obj else OTHERS[::5]:
+                yield meta((name, v), make=make)
+            yield meta((name, good(name)), (name, NULL), make=make)
+            yield meta((name, NULL), (name, good(name)), make=make)
+            yield meta((name.upper(), good(name)), (name + b'2', good(name)), (name[:-1], good(name)), make=make)
+            yield meta((b'x', obj((name, good(name)))), make=make)
+    for name in (b'width', b'audiochannels'):
+        for p in PATTERNS:
+            yield meta((name, num(p)))
+    for p in PATTERNS + RATES:
+        yield meta((b'framerate', num(p)))
+    yield meta((b'encoder', text(b'')))
+    yield meta((b'encoder', text(b'a')), (b'encoder', text(b'bc')), (b'x', NULL))
+    yield meta((b'width', num(1.0)), (b'width', num(2.0)), (b'width', num(3.0)))
+    for v in OTHERS:
+        yield v
+        yield text(b'onMetaData') + v
+        yield text(b'onMetaData') + NULL + v
+        yield v + obj((b'width', num(5.0)))
+    for name in (b'onMetadata', b'onMetaDat', b'onMetaData2', b'', b'onmetadata', b'onCuePoint'):
+        yield text(name) + obj((b'width', num(5.0)))
+    for v in BROKEN:
+        yield v
+        yield text(b'onMetaData') + v
+        yield meta((b'width', num(5.0))) + v
+    for n in (6, 7, 8):
+        for v in deep(n):
+            yield meta((b'a', v))
+            yield text(b'x') + v
+    yield b'\0' + FULL
+
+
+def changed():
+    """Bodies with some bytes changed, left out or put in."""
+    rng = random.Random(20)
+    for t, s in ((20, RESULT), (20, START), (17, b'\0' + START), (18, FULL), (15, meta((b'stereo', bool_(1)), (b'encoder', text(b'e')), make=ecma))):
+        for _ in range(20):
+            b = bytearray(s)
+            for _ in range(rng.randint(1, 2)):
+                i = rng.randrange(len(b))
+                way = rng.randrange(3)
+                if way == 0:
+                    b[i] = rng.choice([0, 1, 2, 3, 5, 6, 8, 9, 10, rng.randrange(256)])
+                elif way == 1:
+                    del b[i]
+                else:
+                    b.insert(i, rng.choice([0, 1, 2, 5, rng.randrange(256)]))
+            yield t, bytes(b)
+
+
+def cases():
+    yield from plain()
+    yield from events()
+    for i, s in enumerate(commands()):
+        yield 20, s
+        if i % 8 == 0:
+            yield 17, s
+            yield 17, b'\0' + s
+        if i % 24 == 0:
+            yield 17, b'\0\0' + s
+            yield 20, b'\0' + s
+    yield 17, b'\0'
+    yield 17, b'\0\0'
+    for i, v in enumerate(notices()):
+        yield 20, cmd(b'onStatus', 0.0, NULL) + v
+        if i % 5 == 0:
+            yield 17, b'\0' + cmd(b'onStatus', 0.0, NULL) + v
+            yield 20, cmd(b'_error', 1.0, NULL) + v
+    for i, s in enumerate(metadata()):
+        yield (15 if i % 4 == 0 else 18), s
+    yield from changed()
+
+
+def main():
+    seen, lines = set(), []
+    for t, s in cases():
+        if (t, s) not in seen:
+            seen.add((t, s))
+            lines.append('%02x\t%s\t%s\n' % (t, s.hex() or '-', answer(t, s)))
+    with open(os.path.join(os.path.dirname(os.path.abspath(__file__)), 'messages.txt'), 'w') as out:
+        out.writelines(lines)
+
+
+if __name__ == '__main__':
+    main()
