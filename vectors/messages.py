@@ -20,35 +20,9 @@ import os
 import random
 import struct
 
-DEPTH = 8
-
-
-class Bad(Exception):
-    pass
-
+from amf0 import DEPTH, Bad, take, uint, utf8
 
 # ---- AMF0: a value is (kind, what it holds, where it starts, the place after it)
-
-
-def take(s, at, n):
-    if at + n > len(s):
-        raise Bad
-    return s[at:at + n], at + n
-
-
-def uint(s, at, n):
-    b, at = take(s, at, n)
-    return int.from_bytes(b, 'big'), at
-
-
-def utf8(s, at):
-    n, at = uint(s, at, 2)
-    t, at = take(s, at, n)
-    try:
-        t.decode('utf-8')
-    except UnicodeDecodeError:
-        raise Bad
-    return t, at
 
 
 def properties(s, at, depth):
