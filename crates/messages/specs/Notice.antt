@@ -7,7 +7,7 @@ use mathlib.Core.Option.{Option, none, some}
 use Rattle.octets.specs.Compare.{ascii, same, part}
 use Rattle.amf0.specs.Value.{Value, number, boolean, text, object, null, undefined, strict, Values, nil, cons}
 use Rattle.amf0.specs.Lookup.{property, propertiesAt}
-use Rattle.amf0.specs.Places.{textOfProperty}
+use Rattle.amf0.specs.Places.{textOfProperty, stretch}
 use Rattle.amf0.specs.declared.properties.TextAt.{TextAt}
 use Rattle.amf0.specs.declared.properties.TextAt.the-variants as at
 use Rattle.messages.specs.declared.on_status.OnStatus.{OnStatus}
@@ -27,6 +27,10 @@ codeOf s (at.At start len) = codeIs start len (part s start len)
 -- the code in the value that x, a last part of s, begins with
 abbrev pub codeAt : List ℕ → List ℕ → OnStatus
 codeAt s x = codeOf s (textOfProperty s (ascii "code") (propertiesAt x))
+
+-- the description in the value that x begins with: the stretch of s that the text of that name is, empty where there is none
+abbrev pub descriptionAt : List ℕ → List ℕ → List ℕ
+descriptionAt s x = stretch s (textOfProperty s (ascii "description") (propertiesAt x))
 
 -- the same by the values alone: the text of that name in the first argument
 abbrev pub asText : Option Value → Option (List ℕ)
