@@ -108,6 +108,12 @@ def lines():
         yield conn(1, t, b'F', None)
         yield conn(2, b'app', t, b'')
         yield conn(3, TEXTS[i - 1], TEXTS[i - 2], t)
+    # RTMP 1.0's own values: the properties of connect in section 7.2.1.1, and the streams named for play in 7.2.2.1
+    for url in (None, b'rtmp://localhost:1935/testapp/instance1'): yield conn(1, b'testapp', b'FMSc/1.0', url)
+    for key in (b'sample', b'mp3:sample', b'mp4:sample.m4v'):
+        yield say('play', [1, 2000, shown(key)], play(1, 2000, key))
+        for kind in ('live', 'record', 'append'):
+            yield say('publish', [shown(key), kind], command(b'publish', 0, NULL, text(key), text(kind.encode())))
     none = [None] * 11
     def meta(fields): return say('metadata', shown_fields(fields), metadata(fields))
     yield meta(none)

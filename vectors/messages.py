@@ -450,6 +450,59 @@ def metadata():
     yield b'\0' + FULL
 
 
+def status(level, code):
+    return cmd(b'onStatus', 0.0, NULL, obj((b'level', text(level)), (b'code', text(code)), (b'description', text(b'sample'))))
+
+
+def connecting():
+    """Section 7.2.1.1 of RTMP 1.0: connect with the values of its table, and what its diagram sends after it."""
+    yield 20, cmd(b'connect', 1.0, obj(
+        (b'app', text(b'testapp')), (b'flashver', text(b'FMSc/1.0')), (b'swfUrl', text(b'file://C:/FlvPlayer.swf')),
+        (b'tcUrl', text(b'rtmp://localhost:1935/testapp/instance1')), (b'fpad', bool_(0)), (b'audioCodecs', num(4.0)),
+        (b'videoCodecs', num(4.0)), (b'videoFunction', num(1.0)), (b'pageUrl', text(b'http://somehost/sample.html')),
+        (b'objectEncoding', num(3.0))))
+    yield 5, be(4, 2500000)
+    for limit in range(3):
+        yield 6, be(4, 2500000) + bytes([limit])
+    yield 4, be(2, 0) + be(4, 0)
+    server = obj((b'fmsVer', text(b'FMS/3,5,7,7009')), (b'capabilities', num(31.0)))
+    for name, level, code in ((b'_result', b'status', b'NetConnection.Connect.Success'), (b'_error', b'error', b'NetConnection.Connect.Rejected')):
+        yield 20, cmd(name, 1.0, server, obj((b'level', text(level)), (b'code', text(code)), (b'description', text(b'sample')),
+                                             (b'objectEncoding', num(0.0))))
+
+
+def streaming():
+    """The commands of sections 7.2.1.2 to 7.2.2.8, and the messages of the diagrams in 7.2.2.1, 7.3.1 and 7.3.3."""
+    yield 20, cmd(b'call', 2.0, NULL, text(b'sample'))
+    yield 20, cmd(b'createStream', 2.0)
+    yield 20, cmd(b'_result', 2.0, NULL, ONE)
+    yield 20, cmd(b'_error', 2.0, NULL, obj((b'level', text(b'error')), (b'code', text(b'NetConnection.Call.Failed'))))
+    for key in (b'sample', b'mp3:sample', b'mp4:sample.m4v'):
+        yield 20, cmd(b'play', 0.0, NULL, text(key))
+        yield 20, cmd(b'play', 0.0, NULL, text(key), num(-2.0), num(-1.0), bool_(1))
+        yield 20, cmd(b'publish', 0.0, NULL, text(key), text(b'live'))
+    yield 20, cmd(b'play2', 0.0, NULL, obj((b'oldStreamName', text(b'sample')), (b'streamName', text(b'mp4:sample.m4v')), (b'start', num(-2.0)),
+                                          (b'len', num(-1.0)), (b'offset', num(-1.0)), (b'transition', text(b'switch'))))
+    yield 20, cmd(b'deleteStream', 0.0, NULL, ONE)
+    for name in (b'receiveAudio', b'receiveVideo'):
+        yield 20, cmd(name, 0.0, NULL, bool_(0))
+    yield 20, cmd(b'seek', 0.0, NULL, num(2000.0))
+    yield 20, cmd(b'pause', 0.0, NULL, bool_(1), num(2000.0))
+    for code in (b'Play.Reset', b'Play.Start', b'Publish.Start', b'Seek.Notify', b'Pause.Notify', b'Unpause.Notify'):
+        yield 20, status(b'status', b'NetStream.' + code)
+    for code in (b'Play.StreamNotFound', b'Publish.BadName'):
+        yield 20, status(b'error', b'NetStream.' + code)
+    yield 1, be(4, 4096)
+    for e in range(5):
+        yield 4, be(2, e) + be(4, 1) + (be(4, 3000) if e == 3 else b'')
+    for e in (6, 7):
+        yield 4, be(2, e) + be(4, 2000)
+    yield 18, FULL
+    yield 18, text(b'@setDataFrame') + FULL
+    yield 8, bytes(range(32))                         # as long as the messages of section 5.3.2
+    yield 9, bytes(i % 256 for i in range(307))
+
+
 def changed():
     """Bodies with some bytes changed, left out or put in."""
     rng = random.Random(20)
@@ -488,6 +541,8 @@ def cases():
             yield 20, cmd(b'_error', 1.0, NULL) + v
     for i, s in enumerate(metadata()):
         yield (15 if i % 4 == 0 else 18), s
+    yield from connecting()
+    yield from streaming()
     yield from changed()
 
 

@@ -5,10 +5,11 @@ use mathlib.Core.List.{List, _∷_, map, List·Memᴰ, List·Memᴰ·head, List�
 use lib.Count.{trailingZeros}
 use lib.Ieee.{span, climb, size, odd, units, round, ofInt, toBits, ofBits}
 use Rattle.octets.specs.BigEndian.{digits}
+use Rattle.octets.specs.Compare.{unhex}
 use Rattle.amf0.specs.Encode.{textBytes, encode}
 use Rattle.bodies.specs.Bodies.{connectBody, createStreamBody, deleteStreamBody, playBody, publishBody, controlBody}
 use Rattle.bodies.specs.MetadataBody.{wholeProp, rateProp, flagProp, textProp, metadataProps, metadataBody}
-use Rattle.bodies.specs.Starred.{unhex, Row, rows}
+use Rattle.bodies.specs.Starred.{Row, rows}
 
 all : map (λ (r : Row). r .body) rows ≡ map (λ (r : Row). unhex (r .hex)) rows
 unfolding connectBody createStreamBody deleteStreamBody playBody publishBody controlBody wholeProp rateProp flagProp textProp metadataProps metadataBody digits textBytes encode ofBits ofInt toBits round units odd size span climb trailingZeros

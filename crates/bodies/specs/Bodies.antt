@@ -8,6 +8,7 @@ use Rattle.octets.specs.Compare.{ascii}
 use Rattle.numbers.specs.Numbers.{numberOf}
 use Rattle.amf0.specs.Value.{Value, number, text, object, null, Props, end, prop, Values, nil, cons}
 use Rattle.amf0.specs.Encode.{encodeValues}
+use Rattle.messages.specs.Numbers.{eventNumber}
 use Rattle.messages.specs.declared.publish_request_type.PublishRequestType.{PublishRequestType}
 use Rattle.messages.specs.declared.publish_request_type.PublishRequestType.the-variants.{Live, Record, Append}
 use Rattle.messages.specs.declared.rtmp_message.UserControlEvent.{UserControlEvent}
@@ -55,16 +56,7 @@ publishName Append = ascii "append"
 unfoldable pub publishBody : List ℕ → PublishRequestType → List ℕ
 publishBody key kind = encodeValues (commandValues (ascii "publish") 0 null (cons (text key) (cons (text (publishName kind)) nil)))
 
--- section 7.1.7: the numbers of the events, and an event with its values
-abbrev pub eventNumber : UserControlEvent → ℕ
-eventNumber (StreamBegin x) = 0
-eventNumber (StreamEof x) = 1
-eventNumber (StreamDry x) = 2
-eventNumber (SetBufferLength x n) = 3
-eventNumber (StreamIsRecorded x) = 4
-eventNumber (PingRequest t) = 6
-eventNumber (PingResponse t) = 7
-
+-- section 7.1.7: the values of an event, and an event with its number before them
 abbrev pub eventValues : UserControlEvent → List ℕ
 eventValues (StreamBegin x) = digits 4 (x .0)
 eventValues (StreamEof x) = digits 4 (x .0)

@@ -1,11 +1,9 @@
 -- Cases on bodies, as rows of one table: a body, and its bytes in hexadecimal. `proofs/Starred.antt` has the theorem: each row holds.
 -- Assumes nothing.
-use Prim.Native.Nat.{ℕ, _+_, _-_, _*_}
-use Prim.Native.Char.{Char, code}
+use Prim.Native.Nat.{ℕ}
 use Prim.Native.String.{String}
-use mathlib.Core.Bool.{true, false, cond}
+use mathlib.Core.Bool.{true, false}
 use mathlib.Core.List.{List, [], _∷_}
-use lib.Dec.{ltb}
 use lib.Ieee.{binary32, ofBits}
 use Rattle.octets.specs.Compare.{ascii}
 use Rattle.amf0.specs.declared.properties.TextAt.the-variants as at
@@ -17,16 +15,6 @@ use Rattle.messages.specs.declared.stream_metadata.OptionBool.the-variants as f
 use Rattle.messages.specs.declared.stream_metadata.StreamMetadata.{StreamMetadata}
 use Rattle.bodies.specs.Bodies.{connectBody, createStreamBody, deleteStreamBody, playBody, publishBody, controlBody, wordBody}
 use Rattle.bodies.specs.MetadataBody.{metadataBody}
-
--- a digit of hexadecimal, 0 to 9 and a to f
-abbrev pub digitOf : Char → ℕ
-digitOf c = cond (ltb (code c) 58) (code c - 48) (code c - 87)
-
--- the bytes that the digits are, two by two
-abbrev pub unhex : String → List ℕ
-unhex String.[] = []
-unhex (String._∷_ a String.[]) = []
-unhex (String._∷_ a (String._∷_ b s)) = (digitOf a * 16 + digitOf b) ∷ unhex s
 
 pub record Row : Type 0 where
   pub body : List ℕ

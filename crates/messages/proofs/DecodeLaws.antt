@@ -1,7 +1,7 @@
 -- One eliminator for every claim about what a body says.
 -- Assumes nothing.
 use Prim.Native.Nat.{ℕ}
-use mathlib.Core.Path.{_≡_, refl}
+use mathlib.Core.Path.{_≡_, refl, ap, _∙_}
 use mathlib.Core.Logic.{_⊎_, inl, inr}
 use mathlib.Core.Bool.{Bool, true, false, cond}
 use mathlib.Core.List.{List, [], _∷_}
@@ -10,7 +10,7 @@ use lib.ListN.{drop}
 use borrow.Author.Tests.{eqb-true}
 use Rattle.octets.specs.Parse.{Parse, bad, got, and-then}
 use Rattle.octets.specs.BigEndian.{uint}
-use Rattle.messages.specs.Incoming.{Incoming, malformed, setChunkSize, abort, acknowledgement, windowSize, peerBandwidth, userControl, command, values, audio, video, unknown, Command, Data, whole, bandwidthOf, eventOf, userControlOf, commandOf, dataOf, decode}
+use Rattle.messages.specs.Incoming.{Incoming, malformed, setChunkSize, abort, acknowledgement, windowSize, peerBandwidth, userControl, command, values, audio, video, unknown, Command, Data, whole, bandwidthOf, eventOf, userControlOf, commandOf, afterZero, dataOf, decode}
 use Rattle.messages.specs.Steps.{leadingZero}
 use Rattle.messages.specs.declared.rtmp_message.PeerBandwidthLimitType.{PeerBandwidthLimitType}
 use Rattle.messages.specs.declared.rtmp_message.UserControlEvent.{UserControlEvent}
@@ -56,7 +56,7 @@ module _ (P : Incoming → Type 0) where
       (type-is t 8 _ _ (λ e. h .audios)
       (type-is t 9 _ _ (λ e. h .videos)
       (type-is t 15 _ _ (λ e. whole-is values (dataOf s) (h .malformeds) (h .datas (inl e)))
-      (type-is t 17 _ _ (λ e. rw (← past-zero s) (whole-is command (commandOf (drop (leadingZero s) s)) (h .malformeds) (h .commands (inl e) (leadingZero s))))
+      (type-is t 17 _ _ (λ e. whole-is command (commandOf (afterZero s)) (h .malformeds) (λ c q. h .commands (inl e) (leadingZero s) c (ap commandOf (past-zero s) ∙ q)))
       (type-is t 18 _ _ (λ e. whole-is values (dataOf s) (h .malformeds) (h .datas (inr e)))
       (type-is t 20 _ _ (λ e. whole-is command (commandOf s) (h .malformeds) (h .commands (inr e) 0))
       (h .unknowns))))))))))))

@@ -5,7 +5,7 @@ use mathlib.Core.List.{List, _∷_, map, List·Memᴰ, List·Memᴰ·head, List�
 use lib.Ieee.{ofBits, toUnsigned}
 use Rattle.octets.specs.Parse.{field}
 use Rattle.octets.specs.BigEndian.{uint}
-use Rattle.octets.specs.Compare.{same}
+use Rattle.octets.specs.Compare.{same, unhex}
 use Rattle.octets.specs.Utf8.{utf8, anyRow, octets}
 use Rattle.amf0.specs.Decode.{markerOf, textOf, nameOf, properties, values, content, value, toEnd}
 use Rattle.amf0.specs.Lookup.{lastOf, propertiesOf, propertiesAt}
@@ -18,7 +18,7 @@ use Rattle.messages.specs.Metadata.{fieldKind, metadataIn, metadataAt}
 use Rattle.messages.specs.declared.rtmp_message.RtmpMessage.{RtmpMessage}
 use Rattle.messages.specs.declared.on_status.OnStatus.{OnStatus}
 use Rattle.messages.specs.declared.stream_metadata.OptionU32.{OptionU32}
-use Rattle.messages.specs.Starred.{Row, body, code-in, width-in, unhex, Says, rows}
+use Rattle.messages.specs.Starred.{Row, body, code-in, width-in, Says, rows}
 
 data Answer : Type 0 where
   message : RtmpMessage → Answer

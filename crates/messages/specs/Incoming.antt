@@ -14,6 +14,8 @@ use Rattle.messages.specs.declared.rtmp_message.PeerBandwidthLimitType.{
 use Rattle.messages.specs.declared.rtmp_message.PeerBandwidthLimitType.the-variants.{Hard, Soft, Dynamic}
 use Rattle.messages.specs.declared.rtmp_message.UserControlEvent.{UserControlEvent}
 use Rattle.messages.specs.declared.rtmp_message.UserControlEvent.the-variants.{StreamBegin, StreamEof, StreamDry, SetBufferLength, StreamIsRecorded, PingRequest, PingResponse}
+use Rattle.messages.specs.Numbers.{typeNumber, eventNumber, limitNumber}
+use Rattle.messages.specs.Numbers as type
 
 -- a command: its name, its Number's pattern, its object and its arguments; and the bytes after its name, from its object and from its arguments on
 pub record Command : Type 0 where
@@ -47,7 +49,11 @@ whole say (got a (x ∷ r)) = malformed
 
 -- section 5.4.5: the limit type after the window size
 unfoldable pub limitOf : ℕ → List ℕ → Parse PeerBandwidthLimitType
-limitOf l r = cond (eqb l 0) (got Hard r) (cond (eqb l 1) (got Soft r) (cond (eqb l 2) (got Dynamic r) bad))
+limitOf l r =
+    cond (eqb l (limitNumber Hard)) (got Hard r)
+    (cond (eqb l (limitNumber Soft)) (got Soft r)
+    (cond (eqb l (limitNumber Dynamic)) (got Dynamic r)
+    bad))
 
 pub record Bandwidth : Type 0 where
   pub size : ℕ
@@ -67,15 +73,22 @@ ofTime e s = and-then (uint 4 s) (λ n r. got (e (record { 0 = n })) r)
 abbrev pub bufferLength : List ℕ → Parse UserControlEvent
 bufferLength s = and-then (uint 4 s) (λ n r. and-then (uint 4 r) (λ l r2. got (SetBufferLength (record { 0 = n }) l) r2))
 
+-- an event's number is the same whatever its values are, so these stand for any
+abbrev pub anyStream : StreamNumber
+anyStream = record { 0 = 0 }
+
+abbrev pub anyTime : RtmpTimestamp
+anyTime = record { 0 = 0 }
+
 unfoldable pub eventOf : ℕ → List ℕ → Parse UserControlEvent
 eventOf e s =
-    cond (eqb e 0) (ofStream StreamBegin s)
-    (cond (eqb e 1) (ofStream StreamEof s)
-    (cond (eqb e 2) (ofStream StreamDry s)
-    (cond (eqb e 3) (bufferLength s)
-    (cond (eqb e 4) (ofStream StreamIsRecorded s)
-    (cond (eqb e 6) (ofTime PingRequest s)
-    (cond (eqb e 7) (ofTime PingResponse s)
+    cond (eqb e (eventNumber (StreamBegin anyStream))) (ofStream StreamBegin s)
+    (cond (eqb e (eventNumber (StreamEof anyStream))) (ofStream StreamEof s)
+    (cond (eqb e (eventNumber (StreamDry anyStream))) (ofStream StreamDry s)
+    (cond (eqb e (eventNumber (SetBufferLength anyStream 0))) (bufferLength s)
+    (cond (eqb e (eventNumber (StreamIsRecorded anyStream))) (ofStream StreamIsRecorded s)
+    (cond (eqb e (eventNumber (PingRequest anyTime))) (ofTime PingRequest s)
+    (cond (eqb e (eventNumber (PingResponse anyTime))) (ofTime PingResponse s)
     bad))))))
 
 unfoldable pub userControlOf : List ℕ → Incoming
@@ -122,19 +135,19 @@ restOf (got v r) = r
 unfoldable pub dataOf : List ℕ → Parse Data
 dataOf s = and-then (allValues s) (λ vs r. got (record { values = vs; afterFirst = restOf (topValue s) }) r)
 
--- the message types: sections 5.4.1 to 5.4.5 and 7.1.1 to 7.1.7
+-- by the message type: sections 5.4.1 to 5.4.5 and 7.1.1 to 7.1.7
 unfoldable pub decode : ℕ → List ℕ → Incoming
 decode t s =
-    cond (eqb t 1) (whole setChunkSize (uint 4 s))
-    (cond (eqb t 2) (whole abort (uint 4 s))
-    (cond (eqb t 3) (whole acknowledgement (uint 4 s))
-    (cond (eqb t 4) (userControlOf s)
-    (cond (eqb t 5) (whole windowSize (uint 4 s))
-    (cond (eqb t 6) (whole (λ b. peerBandwidth (b .size) (b .limit)) (bandwidthOf s))
-    (cond (eqb t 8) audio
-    (cond (eqb t 9) video
-    (cond (eqb t 15) (whole values (dataOf s))
-    (cond (eqb t 17) (whole command (commandOf (afterZero s)))
-    (cond (eqb t 18) (whole values (dataOf s))
-    (cond (eqb t 20) (whole command (commandOf s))
+    cond (eqb t (typeNumber type.setChunkSize)) (whole setChunkSize (uint 4 s))
+    (cond (eqb t (typeNumber type.abort)) (whole abort (uint 4 s))
+    (cond (eqb t (typeNumber type.acknowledgement)) (whole acknowledgement (uint 4 s))
+    (cond (eqb t (typeNumber type.userControl)) (userControlOf s)
+    (cond (eqb t (typeNumber type.windowSize)) (whole windowSize (uint 4 s))
+    (cond (eqb t (typeNumber type.peerBandwidth)) (whole (λ b. peerBandwidth (b .size) (b .limit)) (bandwidthOf s))
+    (cond (eqb t (typeNumber type.audio)) audio
+    (cond (eqb t (typeNumber type.video)) video
+    (cond (eqb t (typeNumber type.amf3Data)) (whole values (dataOf s))
+    (cond (eqb t (typeNumber type.amf3Command)) (whole command (commandOf (afterZero s)))
+    (cond (eqb t (typeNumber type.amf0Data)) (whole values (dataOf s))
+    (cond (eqb t (typeNumber type.amf0Command)) (whole command (commandOf s))
     unknown)))))))))))

@@ -1,4 +1,5 @@
 -- The definitions that the contracts cite.
+pub mod Numbers
 pub mod Incoming
 pub mod Places
 pub mod Steps

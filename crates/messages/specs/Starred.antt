@@ -1,12 +1,10 @@
 -- Bodies in hexadecimal with what is read from them, as rows of one table. `proofs/Starred.antt` has the theorem over the rows.
 -- Assumes nothing.
-use Prim.Native.Nat.{ℕ, _+_, _-_, _*_}
-use Prim.Native.Char.{Char, code}
+use Prim.Native.Nat.{ℕ}
 use Prim.Native.String.{String}
 use mathlib.Core.Path.{_≡_}
-use mathlib.Core.Bool.{cond}
 use mathlib.Core.List.{List, [], _∷_}
-use lib.Dec.{ltb}
+use Rattle.octets.specs.Compare.{unhex}
 use Rattle.messages.specs.Incoming.{decode}
 use Rattle.messages.specs.Places.{placed}
 use Rattle.messages.specs.Notice.{codeAt}
@@ -23,15 +21,6 @@ use Rattle.messages.specs.declared.on_status.OnStatus.the-variants as st
 use Rattle.messages.specs.declared.stream_metadata.OptionU32.{OptionU32}
 use Rattle.messages.specs.declared.stream_metadata.OptionU32.the-variants as u32
 
--- the bytes of a text of hexadecimal digits in lower case, two to a byte
-abbrev pub digit : Char → ℕ
-digit c = cond (ltb (code c) 58) (code c - 48) (code c - 87)
-
-abbrev pub unhex : String → List ℕ
-unhex String.[] = []
-unhex (String._∷_ a String.[]) = []
-unhex (String._∷_ a (String._∷_ b s)) = (digit a * 16 + digit b) ∷ unhex s
-
 -- a body of a type; an object with the code, and with the width, that it holds
 pub data Row : Type 0 where
   body : ℕ → String → RtmpMessage → Row
@@ -45,6 +34,7 @@ Says (code-in h k) = codeAt (unhex h) (unhex h) ≡ k
 Says (width-in h w) = metadataAt (unhex h) (unhex h) .«video_width» ≡ w
 
 -- The first two are starred in document 01, "Spindle cases": both sizes are read, and the session judges them. The others are not.
+-- Types stand as the numbers that come, so that the rows also say which type has which number.
 abbrev pub rows : List Row
 rows =
     body 1 "7fffffff" (message.SetChunkSize 2147483647)

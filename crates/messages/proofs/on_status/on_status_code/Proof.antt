@@ -14,17 +14,18 @@ use Rattle.messages.specs.Notice.{codeIs, codeOf}
 use Rattle.messages.proofs.on_status.on_status_code.Statement.{statement}
 use Rattle.messages.proofs.on_status.on_status_code.Tie as tie
 
+-- the place of the code's text
+abbrev code : tie.Start → TextAt
+code c = textOfProperty (c .args .body .now) (ascii "code") (propertiesAt (drop (c .args .at) (c .args .body .now)))
+
 returns : tie.Need-returns
 unfolding codeOf
-returns c = rw (sym (c .before .before .text-at .ensures) ∙ c .enum-told .given .1)
+returns c =
+    let e : code (c .before .before .before .before .before) ≡ textAt.Absent = sym (c .before .before .text-at .ensures) ∙ c .enum-told .given .1 in
+    rw e
 
--- from where the text's place is bound on
-abbrev given : tie.After-known-told → TextAt
-given c =
-    let a = c .before .before .before .before .before .before .args in
-    textOfProperty (a .body .now) (ascii "code") (propertiesAt (drop (a .at) (a .body .now)))
-
-text-is : (c : tie.After-known-told) → given c ≡ textAt.At (c .before .start .given .0 .0) (c .before .start .given .0 .1 .0)
+text-is : (c : tie.After-known-told)
+    → code (c .before .before .before .before .before .before) ≡ textAt.At (c .before .start .given .0 .0) (c .before .start .given .0 .1 .0)
 text-is c = sym (c .before .before .before .text-at .ensures) ∙ c .before .start .given .1
 
 -- the answer of a comparison of the text with n

@@ -18,7 +18,7 @@ returns c =
 returns-2 : tie.Need-returns-2
 returns-2 c =
     let a = c .before .before .before .args in
-    rw (ne-eqb (length (drop (a .at) (a .body .now))) 4 (λ e. c .if2 .taken (omega (arith, length-drop (a .at) (a .body .now)))))
+    rw (ne-eqb (length (drop (a .at) (a .body .now))) 4 (λ e. omega (arith, length-drop (a .at) (a .body .now))))
 
 returns-3 : tie.Need-returns-3
 returns-3 c =
