@@ -1,0 +1,6 @@
+-- The laws that the proofs cite.
+pub mod StepLaws
+pub mod TakeLaws
+pub mod RecordLaws
+pub mod CallLaws
+pub mod Runs

@@ -1,0 +1,343 @@
+// The calls: each consumes the session and hands back the new one. Every call looks first whether the record is a session, then at the
+// conditions of document 01's refusals in its order, and last at the space, once.
+use crate::config::ClientSessionConfig;
+use crate::errors::ClientSessionError;
+use crate::record::ActiveStream;
+use crate::record::Called;
+use crate::record::ClientSession;
+use crate::record::Link;
+use crate::record::PeerWindow;
+use crate::record::Progress;
+use crate::sending;
+use crate::stages;
+use crate::state::ClientState;
+use messages::PublishRequestType;
+use messages::RtmpTimestamp;
+use messages::StreamMetadata;
+use messages::StreamNumber;
+use octets::Wrote;
+use requests::OutstandingTransaction;
+use requests::Requests;
+use requests::TakeAnswer;
+use requests::TransactionPurpose;
+ghost use mathlib.Core.Path.{_≡_};
+ghost use mathlib.Core.Bool.{false};
+ghost use Rattle.session.specs.Record.{isSession, openOf};
+ghost use Rattle.session.specs.Calls.{connect, play, publish, stopPlayback, stopPublishing, ping, picture, sound, metadata, bytes};
+ghost use Rattle.session.specs.Plan.{request, unlessStage, isConnected, createNext, stopped as stoppedOf, published, ifLarge};
+ghost use Rattle.session.specs.Comes.{Comes};
+ghost use Rattle.session.specs.Contract.{Does};
+
+impl ClientSession {
+    // Opening.
+    pub fn new(config: ClientSessionConfig) -> Called
+        ensures { λ r. ⌜ r ≡ openOf config ⌝ }
+    {
+        let session = ClientSession {
+            config,
+            progress: Progress {
+                state: ClientState::Disconnected,
+                active: ActiveStream::None,
+            },
+            requests: Requests::new(),
+            link: Link {
+                chunk: 128,
+                window: PeerWindow::None,
+                pending: 0,
+                total: 0,
+            },
+        };
+        if !config.texts_sound() {
+            return session.refused(ClientSessionError::Length);
+        }
+        if 2147483647 < config.chunk_size {
+            return session.refused(ClientSessionError::InvalidMaxChunkSize);
+        }
+        session.quiet()
+    }
+
+    pub fn request_connection(self, clock: RtmpTimestamp, app: &[u8], out: &mut [u8]) -> Called
+        ensures { λ r. ⌜ Does self clock (connect (now (app .entry))) (now (out .entry)) r (now (out .exit)) ⌝ }
+    {
+        if !self.is_session() {
+            return self.refused(ClientSessionError::NotASession);
+        }
+        let progress = self.progress;
+        let state = progress.state;
+        if !stages::is_disconnected(state) {
+            return self.refused(ClientSessionError::CantConnectWhileAlreadyConnected);
+        }
+        if !requests::fits(app) {
+            return self.refused(ClientSessionError::Length);
+        }
+        let requests = self.requests;
+        let taken = requests.take(OutstandingTransaction::ConnectionRequested, app);
+        let answer = taken.answer;
+        let after = taken.requests;
+        match answer {
+            TakeAnswer::Spent => self.refused(ClientSessionError::Spent),
+            TakeAnswer::EightOpen => self.refused(ClientSessionError::EightOpen),
+            TakeAnswer::Given(number) => {
+                let config = self.config;
+                let wrote = sending::connect(config, number, app, out);
+                self.sent(
+                    self.with_requests(after),
+                    20,
+                    clock,
+                    StreamNumber(0),
+                    false,
+                    wrote,
+                )
+            }
+        }
+    }
+
+    // Play and publish: a createStream for that purpose.
+    fn request_stream(
+        self,
+        clock: RtmpTimestamp,
+        purpose: TransactionPurpose,
+        key: &[u8],
+        out: &mut [u8],
+    ) -> Called
+        ensures { λ r. ⌜ Comes self (request self clock (unlessStage isConnected self) (OutstandingTransaction.CreateStream purpose) (now (key .entry)) (createNext self)) (now (out .entry)) r (now (out .exit)) ⌝ }
+    {
+        let progress = self.progress;
+        let state = progress.state;
+        if !stages::is_connected(state) {
+            return self.refused(ClientSessionError::SessionInInvalidState(state));
+        }
+        if !requests::fits(key) {
+            return self.refused(ClientSessionError::Length);
+        }
+        let requests = self.requests;
+        let taken = requests.take(OutstandingTransaction::CreateStream(purpose), key);
+        let answer = taken.answer;
+        let after = taken.requests;
+        match answer {
+            TakeAnswer::Spent => self.refused(ClientSessionError::Spent),
+            TakeAnswer::EightOpen => self.refused(ClientSessionError::EightOpen),
+            TakeAnswer::Given(number) => {
+                let wrote = bodies::write_create_stream(out, number);
+                self.sent(
+                    self.with_requests(after),
+                    20,
+                    clock,
+                    StreamNumber(0),
+                    false,
+                    wrote,
+                )
+            }
+        }
+    }
+
+    pub fn request_playback(self, clock: RtmpTimestamp, key: &[u8], out: &mut [u8]) -> Called
+        ensures { λ r. ⌜ Does self clock (play (now (key .entry))) (now (out .entry)) r (now (out .exit)) ⌝ }
+    {
+        if !self.is_session() {
+            return self.refused(ClientSessionError::NotASession);
+        }
+        self.request_stream(clock, TransactionPurpose::PlayRequest, key, out)
+    }
+
+    pub fn request_publishing(
+        self,
+        clock: RtmpTimestamp,
+        key: &[u8],
+        publish_type: PublishRequestType,
+        out: &mut [u8],
+    ) -> Called
+        ensures { λ r. ⌜ Does self clock (publish (now (key .entry)) «publish_type») (now (out .entry)) r (now (out .exit)) ⌝ }
+    {
+        if !self.is_session() {
+            return self.refused(ClientSessionError::NotASession);
+        }
+        self.request_stream(
+            clock,
+            TransactionPurpose::PublishRequest(publish_type),
+            key,
+            out,
+        )
+    }
+
+    // A stop at one of its own two stages.
+    fn stopped(self, clock: RtmpTimestamp, out: &mut [u8]) -> Called
+        ensures { λ r. ⌜ Comes self (stoppedOf self clock (self .progress .active)) (now (out .entry)) r (now (out .exit)) ⌝ }
+    {
+        let progress = self.progress;
+        let active = progress.active;
+        let after = self.with_progress(Progress {
+            state: ClientState::Connected,
+            active: ActiveStream::None,
+        });
+        match active {
+            ActiveStream::None => after.quiet(),
+            ActiveStream::Some(stream) => {
+                let wrote = bodies::write_delete_stream(out, stream);
+                self.sent(after, 20, clock, stream, false, wrote)
+            }
+        }
+    }
+
+    pub fn stop_playback(self, clock: RtmpTimestamp, out: &mut [u8]) -> Called
+        ensures { λ r. ⌜ Does self clock stopPlayback (now (out .entry)) r (now (out .exit)) ⌝ }
+    {
+        if !self.is_session() {
+            return self.refused(ClientSessionError::NotASession);
+        }
+        let progress = self.progress;
+        let state = progress.state;
+        if stages::is_play(state) {
+            return self.stopped(clock, out);
+        }
+        self.quiet()
+    }
+
+    pub fn stop_publishing(self, clock: RtmpTimestamp, out: &mut [u8]) -> Called
+        ensures { λ r. ⌜ Does self clock stopPublishing (now (out .entry)) r (now (out .exit)) ⌝ }
+    {
+        if !self.is_session() {
+            return self.refused(ClientSessionError::NotASession);
+        }
+        let progress = self.progress;
+        let state = progress.state;
+        if stages::is_publish(state) {
+            return self.stopped(clock, out);
+        }
+        self.quiet()
+    }
+
+    // A ping request that carries the clock, which is handed back.
+    pub fn send_ping_request(self, clock: RtmpTimestamp, out: &mut [u8]) -> Called
+        ensures { λ r. ⌜ Does self clock ping (now (out .entry)) r (now (out .exit)) ⌝ }
+    {
+        if !self.is_session() {
+            return self.refused(ClientSessionError::NotASession);
+        }
+        match bodies::write_ping_request(out, clock) {
+            Wrote::NoSpace => self.refused(ClientSessionError::Space),
+            Wrote::Done(len) => self.pinged(
+                sending::packet(4, clock, StreamNumber(0), false, len),
+                clock,
+            ),
+        }
+    }
+
+    // Pictures and sound: the caller's time and droppable flag.
+    fn publish_data(
+        self,
+        type_id: u8,
+        data: &[u8],
+        time: RtmpTimestamp,
+        droppable: bool,
+        out: &mut [u8],
+    ) -> Called
+        ensures { λ r. ⌜ ((clock : RtmpTimestamp) → Comes self (published self clock (ifLarge (now («data» .entry))) (λ x. record { typeId = «type_id»; time = time; stream = x; droppable = droppable; uncompressed = false; body = now («data» .entry) })) (now (out .entry)) r (now (out .exit))) ⌝ }
+    {
+        let progress = self.progress;
+        let state = progress.state;
+        if !stages::is_publishing(state) {
+            return self.refused(ClientSessionError::SessionInInvalidState(state));
+        }
+        let active = progress.active;
+        let ActiveStream::Some(stream) = active else {
+            return self.refused(ClientSessionError::NoKnownActiveStreamIdWhenRequired);
+        };
+        if 16777215 < data.len() {
+            return self.refused(ClientSessionError::Length);
+        }
+        let wrote = octets::write_bytes(out, data);
+        self.sent(self, type_id, time, stream, droppable, wrote)
+    }
+
+    pub fn publish_video_data(
+        self,
+        clock: RtmpTimestamp,
+        data: &[u8],
+        time: RtmpTimestamp,
+        droppable: bool,
+        out: &mut [u8],
+    ) -> Called
+        ensures { λ r. ⌜ Does self clock (picture (now («data» .entry)) time droppable) (now (out .entry)) r (now (out .exit)) ⌝ }
+    {
+        if !self.is_session() {
+            return self.refused(ClientSessionError::NotASession);
+        }
+        self.publish_data(9, data, time, droppable, out)
+    }
+
+    pub fn publish_audio_data(
+        self,
+        clock: RtmpTimestamp,
+        data: &[u8],
+        time: RtmpTimestamp,
+        droppable: bool,
+        out: &mut [u8],
+    ) -> Called
+        ensures { λ r. ⌜ Does self clock (sound (now («data» .entry)) time droppable) (now (out .entry)) r (now (out .exit)) ⌝ }
+    {
+        if !self.is_session() {
+            return self.refused(ClientSessionError::NotASession);
+        }
+        self.publish_data(8, data, time, droppable, out)
+    }
+
+    // The encoder's text lies in `text`.
+    pub fn publish_metadata(
+        self,
+        clock: RtmpTimestamp,
+        fields: StreamMetadata,
+        text: &[u8],
+        out: &mut [u8],
+    ) -> Called
+        ensures { λ r. ⌜ Does self clock (metadata fields (now (text .entry))) (now (out .entry)) r (now (out .exit)) ⌝ }
+    {
+        if !self.is_session() {
+            return self.refused(ClientSessionError::NotASession);
+        }
+        let progress = self.progress;
+        let state = progress.state;
+        if !stages::is_publishing(state) {
+            return self.refused(ClientSessionError::SessionInInvalidState(state));
+        }
+        let active = progress.active;
+        let ActiveStream::Some(stream) = active else {
+            return self.refused(ClientSessionError::NoKnownActiveStreamIdWhenRequired);
+        };
+        let encoder = fields.encoder;
+        if !sending::encoder_fits(encoder, text) {
+            return self.refused(ClientSessionError::Length);
+        }
+        let wrote = bodies::write_metadata(out, fields, text);
+        self.sent(self, 18, clock, stream, false, wrote)
+    }
+
+    // A count of bytes that came, before the messages that they brought.
+    pub fn handle_bytes(self, clock: RtmpTimestamp, count: u32, out: &mut [u8]) -> Called
+        ensures { λ r. ⌜ Does self clock (bytes count) (now (out .entry)) r (now (out .exit)) ⌝ }
+    {
+        if !self.is_session() {
+            return self.refused(ClientSessionError::NotASession);
+        }
+        let link = self.link;
+        let window = link.window;
+        let total = std::num::wrapping_add_u64(link.total, count as u64);
+        let PeerWindow::Some(size) = window else {
+            return self.counted(link.pending, total).quiet();
+        };
+        let sum = (link.pending as u64) + (count as u64);
+        let low = std::num::wrapping_add_u32(link.pending, count);
+        if sum < size as u64 {
+            return self.counted(low, total).quiet();
+        }
+        let wrote = bodies::write_acknowledgement(out, low);
+        self.sent(
+            self.counted(0, total),
+            3,
+            clock,
+            StreamNumber(0),
+            false,
+            wrote,
+        )
+    }
+}
