@@ -11,3 +11,4 @@ pub mod StepLaws
 pub mod CountLaws
 pub mod Theorem
 pub mod Runs
+pub mod CallSteps

@@ -1,5 +1,5 @@
 -- From what a call's code found and wrote to what its plan comes to: refusals in their order, one message, nothing. Each law is stated once, for
--- every call: `search guards` walks the tests of a plan with the facts of the branches.
+-- every call.
 -- Assumes nothing.
 use Prim.Native.Nat.{ℕ}
 use mathlib.Core.Path.{_≡_, refl}
@@ -8,7 +8,7 @@ use mathlib.Core.List.{List, [], _∷_, _++_, append-nil}
 use lib.Dec.{ltb}
 use lib.ListN.{length, drop}
 use borrow.Author.Needs.{zero≤}
-use borrow.Author.Tests.{not-true, not-false, lt-ltb, le-ltb}
+use borrow.Author.Tests.{not-true, not-false, le-ltb}
 use Rattle.octets.specs.Output.{Written, answer, left}
 use Rattle.octets.specs.declared.output.Wrote.{Wrote}
 use Rattle.requests.proofs.BoolLaws.{by-cases, and-left}
@@ -101,8 +101,6 @@ module _ {s : ClientSession} {old : List ℕ} {r : Called} where
       (rw (append-nil b, n))
       (rw (q, h .answered, n))
       (rw (h .list, n)))
-
-pub ruleset guards = (does-13, does, order-hit, order-miss, order-end, quiet-goes, sent-goes, not-said, lt-ltb, le-ltb)
 
 -- ---- a stop: at its own stages, and at another
 module _ {s after : ClientSession} (clock : RtmpTimestamp) {old : List ℕ} {r : Called} (m : after ≡ withProgress s Connected active.None) where

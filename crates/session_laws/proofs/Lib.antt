@@ -16,3 +16,4 @@ pub mod NeverLaws
 pub mod SentLaws
 pub mod AcknowledgedLaws
 pub mod NumberedLaws
+pub mod Sizes
