@@ -1,5 +1,5 @@
 // Sends pictures, for the benchmark. Standard input has their size and how many, 4 bytes each, and a byte: how many requests are open.
-// Standard output has how many went out.
+// Standard output has how many went out, plus a byte of the output after each, so that no copy can be left out.
 use libc::STDIN_FILENO;
 use libc::STDOUT_FILENO;
 use messages::RtmpTimestamp;
@@ -70,6 +70,19 @@ fn went_out(outcome: Outcome) -> u32 {
     }
 }
 
+// The byte of the output at that place, if it is that long.
+fn seen(out: &[u8], at: usize) -> u32 {
+    if out.len() <= at {
+        return 0;
+    }
+    let b = out[at];
+    wide(b)
+}
+
+fn wide(b: u8) -> u32 {
+    b as u32
+}
+
 fn send(start: ClientSession, picture: &[u8], rounds: u32, out: &mut [u8]) -> u32 {
     let mut session = start;
     let mut sent: u32 = 0;
@@ -85,6 +98,7 @@ fn send(start: ClientSession, picture: &[u8], rounds: u32, out: &mut [u8]) -> u3
         session = called.session;
         let outcome = called.outcome;
         sent = std::num::wrapping_add_u32(sent, went_out(outcome));
+        sent = std::num::wrapping_add_u32(sent, seen(out, i as usize));
         i += 1;
     }
     sent
