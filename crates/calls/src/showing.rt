@@ -79,12 +79,12 @@ pub fn outcome(o: Outcome) {
         Outcome::Nothing => hex::word(b"none"),
         Outcome::One(r) => result(r),
         Outcome::Two(_, _) => hex::word(b"two"),
-        Outcome::Three(_, _, _) => hex::word(b"three"),
+        Outcome::Accepted(_, _) => hex::word(b"accepted"),
         Outcome::Pinged(r, time) => {
             hex::word(b"pinged ");
             hex::decimal(time.0 as u64);
             hex::word(b" ");
-            result(r)
+            packet(r)
         }
     }
 }

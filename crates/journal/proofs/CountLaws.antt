@@ -13,7 +13,7 @@ use Rattle.session.specs.Step.{step}
 use Rattle.session.specs.declared.config.ClientSessionConfig.{ClientSessionConfig}
 use Rattle.session.specs.declared.record.ClientSession.{ClientSession}
 use Rattle.session.specs.declared.result.Outcome.{Outcome}
-use Rattle.session.specs.declared.result.Outcome.the-variants.{Refused, Nothing, One, Two, Three, Pinged}
+use Rattle.session.specs.declared.result.Outcome.the-variants.{Refused, Nothing, One, Two, Accepted, Pinged}
 use Rattle.session_laws.specs.Acknowledged.{setsWindow, counts, since, isSet}
 use Rattle.session_laws.specs.Refusals.{isRefused}
 use Rattle.session_laws.specs.Lines.{Turn}
@@ -35,7 +35,7 @@ passed-is (Refused e) = refl
 passed-is Nothing = refl
 passed-is (One a) = refl
 passed-is (Two a b) = refl
-passed-is (Three a b c) = refl
+passed-is (Accepted a b) = refl
 passed-is (Pinged a t) = refl
 
 -- ---- numbers

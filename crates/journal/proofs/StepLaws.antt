@@ -13,7 +13,7 @@ use borrow.Author.Tests.{eqb-true, eq-eqb, not-true}
 use Rattle.messages.specs.declared.ids.RtmpTimestamp.{RtmpTimestamp}
 use Rattle.messages.specs.declared.ids.StreamNumber.{StreamNumber}
 use Rattle.requests.proofs.BoolLaws.{by-cases, and-left, and-right}
-use Rattle.session.specs.Calls.{Call, connect, play, publish, stopPlayback, stopPublishing, ping, picture, sound, metadata, bytes, message, Message, Results, one, two, three, pinged}
+use Rattle.session.specs.Calls.{Call, connect, play, publish, stopPlayback, stopPublishing, ping, picture, sound, metadata, bytes, message, Message, Results, one, two, accepts, pinged}
 use Rattle.session.specs.Calls as calls
 use Rattle.session.specs.Numbers.{refusalNumber}
 use Rattle.session.specs.Outcomes.{inTurn, sentBy, output, written, outcomeOf}
@@ -73,7 +73,7 @@ unfolding awayBy outcomeOf
 none-away calls.nothing = refl
 none-away (one a) = refl
 none-away (two a b) = refl
-none-away (three a b d) = refl
+none-away (accepts a b) = refl
 none-away (pinged a t) = refl
 
 module _ (s : ClientSession) (c : Call) (old : List ℕ) where

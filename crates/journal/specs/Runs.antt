@@ -18,13 +18,14 @@ use Rattle.bodies.specs.Bodies.{connectBody, deleteStreamBody, publishBody}
 use Rattle.requests.specs.declared.outstanding_transaction.OutstandingTransaction.{OutstandingTransaction}
 use Rattle.session.specs.Calls.{Call, connect, play, publish, stopPlayback, stopPublishing, ping, picture, bytes, message, Message, plain, onStream}
 use Rattle.session.specs.Numbers.{eventPlace}
+use Rattle.session.specs.declared.events.ClientSessionEvent.the-variants.{ConnectionRequestAccepted}
 use Rattle.session.specs.Record.{defaultConfig, openOf}
 use Rattle.session.specs.Step.{step, Stepped}
 use Rattle.session.specs.declared.record.ClientSession.{ClientSession}
 use Rattle.session.specs.declared.result.ClientSessionResult.{ClientSessionResult}
 use Rattle.session.specs.declared.result.ClientSessionResult.the-variants.{OutboundResponse, RaisedEvent, UnhandleableMessageReceived}
 use Rattle.session.specs.declared.result.Outcome.{Outcome}
-use Rattle.session.specs.declared.result.Outcome.the-variants.{Refused, Nothing, One, Two, Three, Pinged}
+use Rattle.session.specs.declared.result.Outcome.the-variants.{Refused, Nothing, One, Two, Accepted, Pinged}
 use Rattle.session.specs.declared.state.ClientState.{ClientState}
 use Rattle.session.specs.declared.state.ClientState.the-variants.{Disconnected, Connected, Playing, PublishRequested, Publishing}
 use Rattle.journal.specs.Lines.{Journal}
@@ -87,9 +88,9 @@ abbrev pub events : Outcome → List ℕ
 events (Refused e) = []
 events Nothing = []
 events (One a) = event a
-events (Two a b) = event a ++ event b
-events (Three a b c) = event a ++ (event b ++ event c)
-events (Pinged a t) = event a
+events (Two a b) = []
+events (Accepted a b) = eventPlace ConnectionRequestAccepted ∷ []
+events (Pinged a t) = []
 
 abbrev pub endOf : Ran → End
 endOf r =

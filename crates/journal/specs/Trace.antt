@@ -14,7 +14,7 @@ use Rattle.session.specs.declared.config.ClientSessionConfig.{ClientSessionConf
 use Rattle.session.specs.declared.record.Called.{Called}
 use Rattle.session.specs.declared.record.ClientSession.{ClientSession}
 use Rattle.session.specs.declared.result.Outcome.{Outcome}
-use Rattle.session.specs.declared.result.Outcome.the-variants.{Refused, Nothing, One, Two, Three, Pinged}
+use Rattle.session.specs.declared.result.Outcome.the-variants.{Refused, Nothing, One, Two, Accepted, Pinged}
 use Rattle.session_laws.specs.Lines.{resultsOf, messagesIn}
 use Rattle.journal.specs.Lines.{Line, Journal}
 
@@ -23,7 +23,7 @@ awayBy (Refused e) = some (refusalNumber e)
 awayBy Nothing = none
 awayBy (One a) = none
 awayBy (Two a b) = none
-awayBy (Three a b c) = none
+awayBy (Accepted a b) = none
 awayBy (Pinged a t) = none
 
 -- the line of a call that answered so and left that in the output

@@ -65,7 +65,7 @@ fn went_out(outcome: Outcome) -> u32 {
         Outcome::Nothing => 0,
         Outcome::One(a) => 1,
         Outcome::Two(a, b) => 2,
-        Outcome::Three(a, b, c) => 3,
+        Outcome::Accepted(a, b) => 2,
         Outcome::Pinged(a, time) => 1,
     }
 }

@@ -19,7 +19,7 @@ use Rattle.requests.specs.Texts.{fits}
 use Rattle.requests.proofs.BoolLaws.{by-cases}
 use Rattle.requests.proofs.TextLaws.{fits-length}
 use Rattle.session.specs.Record.{withLink}
-use Rattle.session.specs.Calls.{Message, plain, sends, pinged}
+use Rattle.session.specs.Calls.{Message, plain, pinged}
 use Rattle.session.specs.Outcomes.{inTurn, sentBy, bodies, outcomeOf}
 use Rattle.session.specs.Plan.{Plan, go, isPublishing, publishedOn, published, pingPlan, counted, countedBy, count}
 use Rattle.session.specs.Step.{away as turned, fitted}
@@ -31,8 +31,8 @@ use Rattle.session.specs.declared.record.ActiveStream.the-variants as ac
 use Rattle.session.specs.declared.record.Called.{Called}
 use Rattle.session.specs.declared.record.ClientSession.{ClientSession}
 use Rattle.session.specs.declared.record.PeerWindow.the-variants as window
-use Rattle.session.specs.declared.result.ClientSessionResult.{ClientSessionResult}
 use Rattle.session.specs.declared.result.Outcome.the-variants.{Pinged}
+use Rattle.session.specs.declared.result.Packet.{Packet}
 use Rattle.session.proofs.StepLaws.{comes-to, away, order-hit, order-miss, order-end, quiet-goes, sent-goes, not-said}
 
 -- a text that refusal 9 doesn't meet can be written
@@ -45,7 +45,7 @@ pingedAs s t (Done n) = record { outcome = Pinged (packetOf 4 t (record { 0 = 0 
 pingedAs s t NoSpace = refusedWith s Space
 
 module _ {s : ClientSession} (t : RtmpTimestamp) {old exit : List ℕ} {r : Called} {w : Wrote} where
-  pinged-goes : (b : List ℕ) → Written old b exit w → r ≡ pingedAs s t w → Comes s (go (pinged (sends (plain 4 t b)) t) s) old r exit
+  pinged-goes : (b : List ℕ) → Written old b exit w → r ≡ pingedAs s t w → Comes s (go (pinged (plain 4 t b) t) s) old r exit
   unfolding fitted inTurn sentBy bodies outcomeOf answer left
   pinged-goes b h q =
       by-cases (ltb (length old) (length b))
@@ -62,7 +62,7 @@ module _ {s : ClientSession} (t : RtmpTimestamp) {old exit : List ℕ} {r : Call
   unfolding pingPlan
   ping-unsent h e q = pinged-goes (controlBody (PingRequest t)) h (rw e q)
 
-  pub ping-sent : {n : ℕ} {p : ClientSessionResult}
+  pub ping-sent : {n : ℕ} {p : Packet}
       → Written old (controlBody (PingRequest t)) exit w
       → w ≡ Done n
       → p ≡ packetOf 4 t (record { 0 = 0 }) false n

@@ -28,6 +28,7 @@ use Rattle.session.specs.declared.record.ActiveStream.{ActiveStream}
 use Rattle.session.specs.declared.record.ActiveStream.the-variants as active
 use Rattle.session.specs.declared.record.Called.{Called}
 use Rattle.session.specs.declared.record.ClientSession.{ClientSession}
+use Rattle.session.specs.declared.result.ClientSessionResult.the-variants.{OutboundResponse}
 use Rattle.session.specs.declared.result.Outcome.the-variants.{Nothing, One}
 use Rattle.session.specs.declared.state.ClientState.{ClientState}
 use Rattle.session.specs.declared.state.ClientState.the-variants.{Connected}
@@ -97,7 +98,7 @@ module _ {s : ClientSession} {old : List ℕ} {r : Called} where
       (λ y.
       comes-to (turned Space s old) (rw (append-nil b, y)) (rw (q, h .answered, y)) (rw (h .list, y)))
       (λ n.
-      comes-to (record { outcome = One (packetOf k t x d (length b)); session = after; output = b ++ drop (length b) old })
+      comes-to (record { outcome = One (OutboundResponse (packetOf k t x d (length b))); session = after; output = b ++ drop (length b) old })
       (rw (append-nil b, n))
       (rw (q, h .answered, n))
       (rw (h .list, n)))

@@ -45,10 +45,12 @@ pub data Result : Type 0 where
   -- a message that the session doesn't handle, by its type
   unhandled : ℕ → Result
 
--- the results of a call in turn: no call has more than three. A ping hands its time back beside its message
+-- the results of a call: no call has more than three
 pub data Results : Type 0 where
   nothing : Results
   one : Result → Results
-  two : Result → Result → Results
-  three : Result → Result → Result → Results
-  pinged : Result → RtmpTimestamp → Results
+  two : Message → Message → Results
+  -- a message, the event that a connect was accepted, a message
+  accepts : Message → Message → Results
+  -- a ping hands its time back beside its message
+  pinged : Message → RtmpTimestamp → Results

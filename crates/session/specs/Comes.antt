@@ -14,9 +14,9 @@ use Rattle.session.specs.declared.errors.ClientSessionError.{ClientSessi
 use Rattle.session.specs.declared.errors.ClientSessionError.the-variants.{Space}
 use Rattle.session.specs.declared.record.Called.{Called}
 use Rattle.session.specs.declared.record.ClientSession.{ClientSession}
-use Rattle.session.specs.declared.result.ClientSessionResult.{ClientSessionResult}
 use Rattle.session.specs.declared.result.ClientSessionResult.the-variants.{OutboundResponse}
 use Rattle.session.specs.declared.result.Outcome.the-variants.{Refused, Nothing, One}
+use Rattle.session.specs.declared.result.Packet.{Packet}
 
 pub record Comes (s : ClientSession) (p : Plan) (old : List ℕ) (r : Called) (exit : List ℕ) : Type 0 where
   pub answers : r .outcome ≡ fitted s old p .outcome
@@ -31,11 +31,11 @@ abbrev pub quiet : ClientSession → Called
 quiet s = record { outcome = Nothing; session = s }
 
 -- a message whose body is the first n bytes of the output
-abbrev pub packetOf : ℕ → RtmpTimestamp → StreamNumber → Bool → ℕ → ClientSessionResult
+abbrev pub packetOf : ℕ → RtmpTimestamp → StreamNumber → Bool → ℕ → Packet
 packetOf k t x d n =
-    OutboundResponse (record { «type_id» = k; time = t; stream = x; droppable = d; uncompressed = false; start = 0; len = n })
+    record { «type_id» = k; time = t; stream = x; droppable = d; uncompressed = false; start = 0; len = n }
 
 -- that one message and the session after it, or refusal 12 and the session as it was, by what writing the body answered
 abbrev pub sentAs : ClientSession → ClientSession → ℕ → RtmpTimestamp → StreamNumber → Bool → Wrote → Called
-sentAs s after k t x d (Done n) = record { outcome = One (packetOf k t x d n); session = after }
+sentAs s after k t x d (Done n) = record { outcome = One (OutboundResponse (packetOf k t x d n)); session = after }
 sentAs s after k t x d NoSpace = refusedWith s Space

@@ -39,11 +39,11 @@ use Rattle.requests.specs.declared.outstanding_transaction.TransactionPurpose.{
 use Rattle.requests.specs.declared.outstanding_transaction.TransactionPurpose.the-variants.{PlayRequest, PublishRequest}
 use Rattle.requests.specs.declared.text.Text.{Text}
 use Rattle.session.specs.Record.{withProgress, withRequests, withLink}
-use Rattle.session.specs.Calls.{Message, plain, onStream, Result, sends, raises, unhandled, Results, nothing, one, two, three}
+use Rattle.session.specs.Calls.{Message, plain, onStream, Result, sends, raises, unhandled, Results, nothing, one, two, accepts}
 use Rattle.session.specs.Plan.{Plan, refuse, close, go, Check, inOrder, isPlay, unlessStage}
 use Rattle.session.specs.declared.errors.ClientSessionError.the-variants.{SessionInInvalidState, CreateStreamFailed, CreateStreamResponseHadNoStreamNumber, InvalidOnStatusArguments, InvalidMaxChunkSize, MalformedBody}
 use Rattle.session.specs.declared.events.ClientSessionEvent.{ClientSessionEvent}
-use Rattle.session.specs.declared.events.ClientSessionEvent.the-variants.{ConnectionRequestAccepted, ConnectionRequestRejected, PlaybackRequestAccepted, PublishRequestAccepted, StreamMetadataReceived, VideoDataReceived, AudioDataReceived, UnhandleableAmf0Command, UnknownTransactionResultReceived, UnhandleableOnStatusCode, AcknowledgementReceived, PingResponseReceived}
+use Rattle.session.specs.declared.events.ClientSessionEvent.the-variants.{ConnectionRequestRejected, PlaybackRequestAccepted, PublishRequestAccepted, StreamMetadataReceived, VideoDataReceived, AudioDataReceived, UnhandleableAmf0Command, UnknownTransactionResultReceived, UnhandleableOnStatusCode, AcknowledgementReceived, PingResponseReceived}
 use Rattle.session.specs.declared.record.ActiveStream.{ActiveStream}
 use Rattle.session.specs.declared.record.ActiveStream.the-variants as active
 use Rattle.session.specs.declared.record.ClientSession.{ClientSession}
@@ -72,6 +72,13 @@ abbrev pub isActive : ActiveStream → StreamNumber → Bool
 isActive active.None x = false
 isActive (active.Some a) x = eqb (a .0) (x .0)
 
+-- a reply that no open request waits for: raw number, object and arguments; a command that the session doesn't read
+abbrev pub unknownReply : Command → ClientSessionEvent
+unknownReply c = UnknownTransactionResultReceived (c .number) (c .object) (c .args)
+
+abbrev pub otherCommand : Command → ClientSessionEvent
+otherCommand c = UnhandleableAmf0Command (c .start) (c .len) (c .number) (c .object) (c .args)
+
 -- the stage that a grant gives
 abbrev pub requestedStage : TransactionPurpose → ClientState
 requestedStage PlayRequest = PlayRequested
@@ -88,18 +95,17 @@ module _ (s : ClientSession) (clock : RtmpTimestamp) (b : List ℕ) where
   -- `_result` to an open connect: Connected, the active stream kept
   abbrev pub accepted : ℕ → Plan
   accepted n =
-      go (three
-      (sends (plain (typeNumber windowSize) clock (wordBody (s .config .«window_ack_size»))))
-      (raises ConnectionRequestAccepted)
-      (sends (record { typeId = typeNumber setChunkSize; time = record { 0 = 0 }; stream = record { 0 = 0 }; droppable = false; uncompressed = true; body = wordBody (s .config .«chunk_size») })))
+      go (accepts
+      (plain (typeNumber windowSize) clock (wordBody (s .config .«window_ack_size»)))
+      (record { typeId = typeNumber setChunkSize; time = record { 0 = 0 }; stream = record { 0 = 0 }; droppable = false; uncompressed = true; body = wordBody (s .config .«chunk_size») }))
       (after n Connected (s .progress .active))
 
   -- Grant (document 01): what goes out on the stream x, with the request's own key
   abbrev pub grantSends : TransactionPurpose → Text → StreamNumber → Results
   grantSends PlayRequest key x =
       two
-      (sends (plain (typeNumber userControl) clock (controlBody (SetBufferLength x (s .config .«playback_buffer_length_ms»)))))
-      (sends (onStream (typeNumber amf0Command) clock x (playBody (textOf key))))
+      (plain (typeNumber userControl) clock (controlBody (SetBufferLength x (s .config .«playback_buffer_length_ms»))))
+      (onStream (typeNumber amf0Command) clock x (playBody (textOf key)))
   grantSends (PublishRequest t) key x = one (sends (onStream (typeNumber amf0Command) clock x (publishBody (textOf key) t)))
 
   abbrev pub granted : ℕ → TransactionPurpose → Text → Argument → Plan
@@ -122,11 +128,11 @@ module _ (s : ClientSession) (clock : RtmpTimestamp) (b : List ℕ) where
 
   -- by the request that is open under the held number, if one is
   abbrev pub resultTo : Command → ℕ → Option Request → Plan
-  resultTo c n none = go (one (raises (UnknownTransactionResultReceived c))) s
+  resultTo c n none = go (one (raises (unknownReply c))) s
   resultTo c n (some q) = resultOf c n (q .kind) (q .text)
 
   abbrev pub errorTo : Command → ℕ → Option Request → Plan
-  errorTo c n none = go (one (raises (UnknownTransactionResultReceived c))) s
+  errorTo c n none = go (one (raises (unknownReply c))) s
   errorTo c n (some q) = errorOf c n (q .kind)
 
   -- a notice, by its code
@@ -142,7 +148,7 @@ module _ (s : ClientSession) (clock : RtmpTimestamp) (b : List ℕ) where
   commandOf c name.Result = resultTo c (held (c .number)) (lookup (held (c .number)) (s .requests .places))
   commandOf c name.Error = errorTo c (held (c .number)) (lookup (held (c .number)) (s .requests .places))
   commandOf c name.OnStatus = noticed (codeAt b (drop (c .args) b))
-  commandOf c name.Other = go (one (raises (UnhandleableAmf0Command c))) s
+  commandOf c name.Other = go (one (raises (otherCommand c))) s
 
   -- an event of a message on the active stream; on another stream nothing
   abbrev pub ifActive : StreamNumber → ClientSessionEvent → Plan

@@ -3,19 +3,20 @@
 use Prim.Native.Nat.{ℕ, _+_}
 use mathlib.Core.List.{List, [], _∷_, _++_}
 use lib.ListN.{length, drop}
-use Rattle.session.specs.Calls.{Message, Result, sends, raises, unhandled, Results, nothing, one, two, three, pinged}
+use Rattle.session.specs.Calls.{Message, Result, sends, raises, unhandled, Results, nothing, one, two, accepts, pinged}
+use Rattle.session.specs.declared.events.ClientSessionEvent.the-variants.{ConnectionRequestAccepted}
 use Rattle.session.specs.declared.result.ClientSessionResult.{ClientSessionResult}
 use Rattle.session.specs.declared.result.ClientSessionResult.the-variants.{OutboundResponse, RaisedEvent, UnhandleableMessageReceived}
 use Rattle.session.specs.declared.result.Outcome.{Outcome}
-use Rattle.session.specs.declared.result.Outcome.the-variants.{Nothing, One, Two, Three, Pinged}
+use Rattle.session.specs.declared.result.Outcome.the-variants.{Nothing, One, Two, Accepted, Pinged}
 use Rattle.session.specs.declared.result.Packet.{Packet}
 
 unfoldable pub inTurn : Results → List Result
 inTurn nothing = []
 inTurn (one a) = a ∷ []
-inTurn (two a b) = a ∷ b ∷ []
-inTurn (three a b c) = a ∷ b ∷ c ∷ []
-inTurn (pinged a t) = a ∷ []
+inTurn (two a b) = sends a ∷ sends b ∷ []
+inTurn (accepts a b) = sends a ∷ raises ConnectionRequestAccepted ∷ sends b ∷ []
+inTurn (pinged a t) = sends a ∷ []
 
 unfoldable pub sentBy : List Result → List Message
 sentBy [] = []
@@ -63,6 +64,6 @@ taken (unhandled t) = 0
 unfoldable pub outcomeOf : Results → Outcome
 outcomeOf nothing = Nothing
 outcomeOf (one a) = One (answered 0 a)
-outcomeOf (two a b) = Two (answered 0 a) (answered (taken a) b)
-outcomeOf (three a b c) = Three (answered 0 a) (answered (taken a) b) (answered (taken a + taken b) c)
-outcomeOf (pinged a t) = Pinged (answered 0 a) t
+outcomeOf (two a b) = Two (packet 0 a) (packet (length (a .body)) b)
+outcomeOf (accepts a b) = Accepted (packet 0 a) (packet (length (a .body)) b)
+outcomeOf (pinged a t) = Pinged (packet 0 a) t

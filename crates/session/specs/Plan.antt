@@ -134,7 +134,7 @@ module _ (s : ClientSession) (clock : RtmpTimestamp) where
   published given message = inOrder (unlessStage isPublishing s ∷ []) (publishedOn given message (s .progress .active))
 
   unfoldable pub pingPlan : Plan
-  pingPlan = go (pinged (sends (plain (typeNumber userControl) clock (controlBody (PingRequest clock)))) clock) s
+  pingPlan = go (pinged (plain (typeNumber userControl) clock (controlBody (PingRequest clock))) clock) s
 
   -- byte counts: all enter a total that wraps; once a window is set also a pending count
   abbrev pub counted : ℕ → ℕ → ClientSession

@@ -11,9 +11,6 @@ use Rattle.octets.specs.Compare.{ascii, unhex}
 use Rattle.amf0.specs.declared.properties.TextAt.the-variants as text
 use Rattle.messages.specs.declared.ids.RtmpTimestamp.{RtmpTimestamp}
 use Rattle.messages.specs.declared.publish_request_type.PublishRequestType.the-variants.{Live, Record, Append}
-use Rattle.messages.specs.declared.rtmp_message.Argument.{Argument}
-use Rattle.messages.specs.declared.rtmp_message.Argument.the-variants as argument
-use Rattle.messages.specs.declared.rtmp_message.CommandName.the-variants as name
 use Rattle.messages.specs.declared.stream_metadata.OptionU32.the-variants as u32
 use Rattle.messages.specs.declared.stream_metadata.OptionF32.the-variants as f32
 use Rattle.messages.specs.declared.stream_metadata.OptionBool.the-variants as flag
@@ -32,7 +29,7 @@ use Rattle.session.specs.Comes.{packetOf}
 use Rattle.session.specs.declared.config.ClientSessionConfig.{ClientSessionConfig}
 use Rattle.session.specs.declared.errors.ClientSessionError.the-variants.{CantConnectWhileAlreadyConnected, SessionInInvalidState, NoKnownActiveStreamIdWhenRequired, CreateStreamFailed, CreateStreamResponseHadNoStreamNumber, InvalidOnStatusArguments, InvalidMaxChunkSize, MalformedBody, Length, EightOpen, Spent, Space, NotASession}
 use Rattle.session.specs.declared.events.ClientSessionEvent.{ClientSessionEvent}
-use Rattle.session.specs.declared.events.ClientSessionEvent.the-variants.{ConnectionRequestAccepted, ConnectionRequestRejected, PlaybackRequestAccepted, PublishRequestAccepted, StreamMetadataReceived, VideoDataReceived, AudioDataReceived, UnhandleableAmf0Command, UnknownTransactionResultReceived, UnhandleableOnStatusCode, AcknowledgementReceived, PingResponseReceived}
+use Rattle.session.specs.declared.events.ClientSessionEvent.the-variants.{ConnectionRequestRejected, PlaybackRequestAccepted, PublishRequestAccepted, StreamMetadataReceived, VideoDataReceived, AudioDataReceived, UnhandleableAmf0Command, UnknownTransactionResultReceived, UnhandleableOnStatusCode, AcknowledgementReceived, PingResponseReceived}
 use Rattle.session.specs.declared.record.ActiveStream.the-variants as active
 use Rattle.session.specs.declared.record.Called.{Called}
 use Rattle.session.specs.declared.record.ClientSession.{ClientSession}
@@ -41,7 +38,7 @@ use Rattle.session.specs.declared.record.PeerWindow.the-variants as wind
 use Rattle.session.specs.declared.record.Progress.{Progress}
 use Rattle.session.specs.declared.result.ClientSessionResult.the-variants.{OutboundResponse, RaisedEvent, UnhandleableMessageReceived}
 use Rattle.session.specs.declared.result.Outcome.{Outcome}
-use Rattle.session.specs.declared.result.Outcome.the-variants.{Refused, Nothing, One, Two, Three, Pinged}
+use Rattle.session.specs.declared.result.Outcome.the-variants.{Refused, Nothing, One, Two, Accepted, Pinged}
 use Rattle.session.specs.declared.state.ClientState.{ClientState}
 use Rattle.session.specs.declared.state.ClientState.the-variants.{Disconnected, Connected, PublishRequested, Publishing}
 
@@ -82,7 +79,7 @@ at t = record { 0 = t }
 
 -- a message of type k at time t on stream x, droppable or not, whose body is the first n bytes of the output
 abbrev sent : ℕ → ℕ → ℕ → Bool → ℕ → Outcome
-sent k t x d n = One (packetOf k (at t) (record { 0 = x }) d n)
+sent k t x d n = One (OutboundResponse (packetOf k (at t) (record { 0 = x }) d n))
 
 abbrev raised : ClientSessionEvent → Outcome
 raised e = One (RaisedEvent e)
@@ -90,22 +87,20 @@ raised e = One (RaisedEvent e)
 -- a window size, event 0, a chunk size at time 0 with the uncompressed flag
 abbrev accepted : ℕ → Outcome
 accepted t =
-    Three
+    Accepted
     (packetOf 5 (at t) (record { 0 = 0 }) false 4)
-    (RaisedEvent ConnectionRequestAccepted)
-    (OutboundResponse (record { «type_id» = 1; time = at 0; stream = record { 0 = 0 }; droppable = false; uncompressed = true; start = 4; len = 4 }))
+    (record { «type_id» = 1; time = at 0; stream = record { 0 = 0 }; droppable = false; uncompressed = true; start = 4; len = 4 })
 
 -- SetBufferLength on stream 0 and then `play`, n bytes long, on stream x
 abbrev playing : ℕ → ℕ → ℕ → Outcome
 playing t x n =
     Two
     (packetOf 4 (at t) (record { 0 = 0 }) false 10)
-    (OutboundResponse (record { «type_id» = 20; time = at t; stream = record { 0 = x }; droppable = false; uncompressed = false; start = 10; len = n }))
+    (record { «type_id» = 20; time = at t; stream = record { 0 = x }; droppable = false; uncompressed = false; start = 10; len = n })
 
--- a reply that no open request waits for, by its Number's pattern and its first argument
-abbrev unknown : ℕ → Argument → Outcome
-unknown n a =
-    raised (UnknownTransactionResultReceived (record { name = name.Result; start = 3; len = 7; number = n; object = 19; args = 20; first = a }))
+-- a `_result` of type 20 that no open request waits for, by its Number's pattern
+abbrev unknown : ℕ → Outcome
+unknown n = raised (UnknownTransactionResultReceived n 19 20)
 
 -- a message of type k that came: at time 0 on stream 0; at time t on stream x
 abbrev came : ℕ → String → Call
@@ -208,31 +203,34 @@ publishing =
     ∷ line 22 (picture (1 ∷ []) (at 43) false) 1 (Refused (SessionInInvalidState Connected)) "ff"
     ∷ []
 
--- Starred: reply 1.9 closes request 1, and a second reply to it is unknown. SetBufferLength and play; a failed grant, and one without a number, close
--- their requests
+-- Starred: reply 1.9 closes request 1, and a second reply to it is unknown. SetBufferLength and play; a failed grant, one with a null for its number and
+-- one with no argument at all close their requests
 abbrev pub watching : List Line
 watching =
     line 1 (connect []) 83 (sent 20 1 0 false 83)
     "020007636f6e6e656374003ff00000000000000300036170700200000008666c61736856657202000e57494e2032332c302c302c323037000e6f626a656374456e636f64696e67000000000000000000000009"
     ∷ line 2 (play (255 ∷ [])) 1 (Refused (SessionInInvalidState Disconnected)) "ff"
     ∷ line 3 (came 20 "0200075f726573756c74003ffe6666666666660505") 8 (accepted 3) "002625a000001000"
-    ∷ line 4 (came 20 "0200075f726573756c74003ffe6666666666660505") 0 (unknown 0x3ffe_6666_6666_6666 argument.Other) ""
+    ∷ line 4 (came 20 "0200075f726573756c74003ffe6666666666660505") 0 (unknown 0x3ffe_6666_6666_6666) ""
     ∷ line 5 (play (ascii "key")) 25 (sent 20 5 0 false 25) "02000c63726561746553747265616d00400000000000000005"
     ∷ line 6 (came 20 "0200065f6572726f720040000000000000000505") 0 (Refused CreateStreamFailed) ""
-    ∷ line 7 (came 20 "0200075f726573756c7400400000000000000005003ff0000000000000") 0 (unknown 0x4000_0000_0000_0000 (argument.Number 0x3ff0_0000_0000_0000)) ""
+    ∷ line 7 (came 20 "0200075f726573756c7400400000000000000005003ff0000000000000") 0 (unknown 0x4000_0000_0000_0000) ""
     ∷ line 8 (play (ascii "key")) 25 (sent 20 8 0 false 25) "02000c63726561746553747265616d00400800000000000005"
     ∷ line 9 (came 20 "0200075f726573756c740040080000000000000505") 0 (Refused CreateStreamResponseHadNoStreamNumber) ""
-    ∷ line 10 (came 20 "0200075f726573756c740040080000000000000505") 0 (unknown 0x4008_0000_0000_0000 argument.Other) ""
+    ∷ line 10 (came 20 "0200075f726573756c740040080000000000000505") 0 (unknown 0x4008_0000_0000_0000) ""
     ∷ line 11 (play (ascii "key")) 25 (sent 20 11 0 false 25) "02000c63726561746553747265616d00401000000000000005"
-    ∷ line 12 (came 20 "0200075f726573756c7400401000000000000005003ff0000000000000") 33 (playing 12 1 23)
+    ∷ line 12 (came 20 "0200075f726573756c7400401000000000000005") 0 (Refused CreateStreamResponseHadNoStreamNumber) ""
+    ∷ line 13 (came 20 "0200075f726573756c7400401000000000000005") 0 (unknown 0x4010_0000_0000_0000) ""
+    ∷ line 14 (play (ascii "key")) 25 (sent 20 14 0 false 25) "02000c63726561746553747265616d00401400000000000005"
+    ∷ line 15 (came 20 "0200075f726573756c7400401400000000000005003ff0000000000000") 33 (playing 15 1 23)
     "000300000001000007d0020004706c6179000000000000000000050200036b6579"
-    ∷ line 13 (cameOn 1 50 9 "01") 0 (raised (VideoDataReceived (at 50))) ""
-    ∷ line 14 playStart 0 (raised PlaybackRequestAccepted) ""
-    ∷ line 15 (cameOn 1 51 8 "01") 0 (raised (AudioDataReceived (at 51))) ""
-    ∷ line 16 (cameOn 2 52 9 "01") 0 Nothing ""
-    ∷ line 17 (came 20 "0200086f6e5374617475730000000000000000000505") 0 (Refused InvalidOnStatusArguments) ""
-    ∷ line 18 stopPlayback 34 (sent 20 18 1 false 34) "02000c64656c65746553747265616d00000000000000000005003ff0000000000000"
-    ∷ line 19 stopPlayback 0 Nothing ""
+    ∷ line 16 (cameOn 1 50 9 "01") 0 (raised (VideoDataReceived (at 50))) ""
+    ∷ line 17 playStart 0 (raised PlaybackRequestAccepted) ""
+    ∷ line 18 (cameOn 1 51 8 "01") 0 (raised (AudioDataReceived (at 51))) ""
+    ∷ line 19 (cameOn 2 52 9 "01") 0 Nothing ""
+    ∷ line 20 (came 20 "0200086f6e5374617475730000000000000000000505") 0 (Refused InvalidOnStatusArguments) ""
+    ∷ line 21 stopPlayback 34 (sent 20 21 1 false 34) "02000c64656c65746553747265616d00000000000000000005003ff0000000000000"
+    ∷ line 22 stopPlayback 0 Nothing ""
     ∷ []
 
 -- a second createStream reply while Playing is granted with its own key; a late connect reply gives Connected and keeps the active stream
@@ -321,7 +319,7 @@ listening =
     ∷ line 20 (came 18 "030001610300016103000161030001610300016103000161030001610300016105000009000009000009000009000009000009000009000009") 0 (Refused MalformedBody) ""
     ∷ line 21 (came 20 "0200086f6e53746174757300000000000000000005030004636f646502000178000009") 0 (raised (UnhandleableOnStatusCode 31 1)) ""
     ∷ line 22 (came 20 "0200086f6e4257446f6e6500000000000000000005") 0
-    (raised (UnhandleableAmf0Command (record { name = name.Other; start = 3; len = 8; number = 0; object = 20; args = 21; first = argument.Absent })))
+    (raised (UnhandleableAmf0Command 3 8 0 20 21))
     ""
     ∷ line 23 publishStart 0 (Refused (SessionInInvalidState Disconnected)) ""
     ∷ line 24 (cameOn 1 70 8 "01") 0 (Refused (SessionInInvalidState Disconnected)) ""

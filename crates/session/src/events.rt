@@ -1,6 +1,5 @@
 // Events. Texts and values are places in the message's body; a picture's or a sound's data is the whole body.
 use amf0::TextAt;
-use messages::Command;
 use messages::RtmpTimestamp;
 use messages::StreamMetadata;
 
@@ -13,10 +12,24 @@ pub enum ClientSessionEvent {
     StreamMetadataReceived(StreamMetadata),
     VideoDataReceived(RtmpTimestamp),
     AudioDataReceived(RtmpTimestamp),
-    UnhandleableAmf0Command(Command),
-    UnknownTransactionResultReceived(Command),
+    // the place of the name; the pattern of the Number; where the object and the arguments start
+    UnhandleableAmf0Command {
+        start: usize,
+        len: usize,
+        number: u64,
+        object: usize,
+        args: usize,
+    },
+    UnknownTransactionResultReceived {
+        number: u64,
+        object: usize,
+        args: usize,
+    },
     // the place of the code
-    UnhandleableOnStatusCode { start: usize, len: usize },
+    UnhandleableOnStatusCode {
+        start: usize,
+        len: usize,
+    },
     AcknowledgementReceived(u32),
     PingResponseReceived(RtmpTimestamp),
 }

@@ -3,6 +3,7 @@ use crate::config::ClientSessionConfig;
 use crate::errors::ClientSessionError;
 use crate::result::ClientSessionResult;
 use crate::result::Outcome;
+use crate::result::Packet;
 use crate::sending;
 use crate::state::ClientState;
 use messages::RtmpTimestamp;
@@ -96,7 +97,7 @@ impl ClientSession {
     }
 
     // A ping request, and the time that it carries.
-    pub(crate) fn pinged(self, request: ClientSessionResult, time: RtmpTimestamp) -> Called
+    pub(crate) fn pinged(self, request: Packet, time: RtmpTimestamp) -> Called
         ensures { λ r. ⌜ r ≡ record { outcome = Outcome.Pinged request time; session = self } ⌝ }
     {
         Called {
@@ -146,7 +147,8 @@ impl ClientSession {
         match wrote {
             Wrote::NoSpace => self.refused(ClientSessionError::Space),
             Wrote::Done(len) => {
-                after.answered(sending::packet(type_id, time, stream, droppable, len))
+                let packet = sending::packet(type_id, time, stream, droppable, len);
+                after.answered(ClientSessionResult::OutboundResponse(packet))
             }
         }
     }

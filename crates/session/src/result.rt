@@ -26,8 +26,10 @@ pub enum Outcome {
     Refused(ClientSessionError),
     Nothing,
     One(ClientSessionResult),
-    Two(ClientSessionResult, ClientSessionResult),
-    Three(ClientSessionResult, ClientSessionResult, ClientSessionResult),
+    // two messages
+    Two(Packet, Packet),
+    // a connect that was accepted: a message, the event ConnectionRequestAccepted, a message
+    Accepted(Packet, Packet),
     // a ping request, and the time that it carries
-    Pinged(ClientSessionResult, RtmpTimestamp),
+    Pinged(Packet, RtmpTimestamp),
 }

@@ -1,6 +1,5 @@
 // Bodies written from what the session holds, and the packets of what was written.
 use crate::config::ClientSessionConfig;
-use crate::result::ClientSessionResult;
 use crate::result::Packet;
 use amf0::TextAt;
 use messages::RtmpTimestamp;
@@ -26,10 +25,10 @@ pub(crate) fn packet(
     stream: StreamNumber,
     droppable: bool,
     len: usize,
-) -> ClientSessionResult
+) -> Packet
     ensures { λ r. ⌜ r ≡ packetOf «type_id» time stream droppable len ⌝ }
 {
-    ClientSessionResult::OutboundResponse(Packet {
+    Packet {
         type_id,
         time,
         stream,
@@ -37,7 +36,7 @@ pub(crate) fn packet(
         uncompressed: false,
         start: 0,
         len,
-    })
+    }
 }
 
 // Whether refusal 9 doesn't meet the encoder's text, which lies in `text`.

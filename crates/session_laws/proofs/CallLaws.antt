@@ -47,7 +47,7 @@ pub one-length : (m : Message) → length (output (one (sends m))) ≡ length (m
 unfolding inTurn sentBy bodies
 one-length m = rw (append-nil (m .body))
 
-ping-length : (clock : RtmpTimestamp) → length (output (pinged (sends (plain 4 clock (controlBody (PingRequest clock)))) clock)) ≡ 6
+ping-length : (clock : RtmpTimestamp) → length (output (pinged (plain 4 clock (controlBody (PingRequest clock))) clock)) ≡ 6
 unfolding inTurn sentBy bodies controlBody
 ping-length clock = simp (length-append, length-digits)
 

@@ -9,7 +9,7 @@ use mathlib.Core.List.{List, [], _∷_}
 use lib.Dec.{ltb}
 use lib.ListN.{length}
 use Rattle.requests.proofs.BoolLaws.{by-cases}
-use Rattle.session.specs.Calls.{Call, Results, nothing, one, two, three, pinged}
+use Rattle.session.specs.Calls.{Call, Results, nothing, one, two, accepts, pinged}
 use Rattle.session.specs.Outcomes.{output, outcomeOf}
 use Rattle.session.specs.Plan.{Plan, refuse, close, go, Check, inOrder}
 use Rattle.session.specs.Step.{Stepped, fitted}
@@ -75,7 +75,7 @@ unfolding outcomeOf
 results-pass nothing = refl
 results-pass (one a) = refl
 results-pass (two a b) = refl
-results-pass (three a b c) = refl
+results-pass (accepts a b) = refl
 results-pass (pinged a t) = refl
 
 -- how much a plan writes

@@ -8,7 +8,7 @@ use mathlib.Core.List.{List, [], _∷_, _++_, append-assoc}
 use lib.ListN.{length, take, drop, length-append}
 use lib.Seq.{take-at, drop-at}
 use Rattle.octets.specs.Compare.{part}
-use Rattle.session.specs.Calls.{Message, Result, sends, raises, unhandled, Results, nothing, one, two, three, pinged}
+use Rattle.session.specs.Calls.{Message, Result, sends, raises, unhandled, Results, nothing, one, two, accepts, pinged}
 use Rattle.session.specs.Outcomes.{inTurn, sentBy, bodies, output, written, answered, taken, outcomeOf}
 use Rattle.session.specs.declared.result.ClientSessionResult.{ClientSessionResult}
 use Rattle.session_laws.specs.Lines.{resultsOf, messagesIn}
@@ -22,8 +22,8 @@ answers-are : (rs : Results) → resultsOf (outcomeOf rs) ≡ answersFrom 0 (inT
 unfolding outcomeOf resultsOf inTurn answersFrom
 answers-are nothing = refl
 answers-are (one a) = refl
-answers-are (two a b) = rw (zero-add (taken a))
-answers-are (three a b c) = rw (zero-add (taken a))
+answers-are (two a b) = rw (zero-add (length (a .body)))
+answers-are (accepts a b) = rw (zero-add (length (a .body)))
 answers-are (pinged a t) = refl
 
 abbrev with-body : Message → List ℕ → Message

@@ -6,11 +6,12 @@ use Rattle.octets.specs.Compare.{part}
 use Rattle.messages.specs.declared.ids.RtmpTimestamp.{RtmpTimestamp}
 use Rattle.session.specs.Calls.{Call, Message}
 use Rattle.session.specs.Step.{Stepped, step}
+use Rattle.session.specs.declared.events.ClientSessionEvent.the-variants.{ConnectionRequestAccepted}
 use Rattle.session.specs.declared.record.ClientSession.{ClientSession}
 use Rattle.session.specs.declared.result.ClientSessionResult.{ClientSessionResult}
 use Rattle.session.specs.declared.result.ClientSessionResult.the-variants.{OutboundResponse, RaisedEvent, UnhandleableMessageReceived}
 use Rattle.session.specs.declared.result.Outcome.{Outcome}
-use Rattle.session.specs.declared.result.Outcome.the-variants.{Refused, Nothing, One, Two, Three, Pinged}
+use Rattle.session.specs.declared.result.Outcome.the-variants.{Refused, Nothing, One, Two, Accepted, Pinged}
 use Rattle.session.specs.declared.result.Packet.{Packet}
 
 -- the clock, the call and the lent output
@@ -44,9 +45,9 @@ unfoldable pub resultsOf : Outcome → List ClientSessionResult
 resultsOf (Refused e) = []
 resultsOf Nothing = []
 resultsOf (One a) = a ∷ []
-resultsOf (Two a b) = a ∷ b ∷ []
-resultsOf (Three a b c) = a ∷ b ∷ c ∷ []
-resultsOf (Pinged a t) = a ∷ []
+resultsOf (Two a b) = OutboundResponse a ∷ OutboundResponse b ∷ []
+resultsOf (Accepted a b) = OutboundResponse a ∷ RaisedEvent ConnectionRequestAccepted ∷ OutboundResponse b ∷ []
+resultsOf (Pinged a t) = OutboundResponse a ∷ []
 
 abbrev pub messageAt : List ℕ → Packet → Message
 messageAt out p =

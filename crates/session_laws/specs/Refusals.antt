@@ -20,7 +20,7 @@ use Rattle.session.specs.declared.errors.ClientSessionError.the-variants.{CantC
 use Rattle.session.specs.declared.record.ActiveStream.the-variants as active
 use Rattle.session.specs.declared.record.ClientSession.{ClientSession}
 use Rattle.session.specs.declared.result.Outcome.{Outcome}
-use Rattle.session.specs.declared.result.Outcome.the-variants.{Refused, Nothing, One, Two, Three, Pinged}
+use Rattle.session.specs.declared.result.Outcome.the-variants.{Refused, Nothing, One, Two, Accepted, Pinged}
 use Rattle.session.specs.declared.state.ClientState.the-variants.{Disconnected, Connected, Publishing}
 use Rattle.session_laws.specs.Order.{Row, _if_, First, NoneOf, OneAtMost}
 use Rattle.session_laws.specs.Conditions.{Unfit, UnfitText, LargeChunk, stage, NoSession, WrongStage, NotCreated, NoStreamNumber, BadNotice, PeerChunk}
@@ -31,7 +31,7 @@ isRefused (Refused e) = true
 isRefused Nothing = false
 isRefused (One a) = false
 isRefused (Two a b) = false
-isRefused (Three a b c) = false
+isRefused (Accepted a b) = false
 isRefused (Pinged a t) = false
 
 -- opening: 9, 7
