@@ -4,3 +4,5 @@ pub mod TakeLaws
 pub mod RecordLaws
 pub mod CallLaws
 pub mod Runs
+pub mod MessageLaws
+pub mod ReplyLaws

@@ -2,7 +2,7 @@
 -- Assumes nothing.
 use Prim.Native.Nat.{ℕ, _+_}
 use native.Mathlib.Omega.{arith}
-use native.Mathlib.Nat.{zero-add}
+use native.Mathlib.Nat.{zero-add, add-zero}
 use mathlib.Core.Path.{_≡_, refl, ap, ap₂, _∙_}
 use mathlib.Core.List.{List, [], _∷_, _++_, append-assoc}
 use lib.ListN.{length, take, drop, length-append}
@@ -23,7 +23,7 @@ unfolding outcomeOf resultsOf inTurn answersFrom
 answers-are nothing = refl
 answers-are (one a) = refl
 answers-are (two a b) = rw (zero-add (length (a .body)))
-answers-are (accepts a b) = rw (zero-add (length (a .body)))
+answers-are (accepts a b) = rw (zero-add (length (a .body)), add-zero (length (a .body)))
 answers-are (pinged a t) = refl
 
 abbrev with-body : Message → List ℕ → Message

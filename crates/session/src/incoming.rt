@@ -195,7 +195,13 @@ impl ClientSession {
             CommandName::Error => self.handle_failed_result(command, body),
             CommandName::OnStatus => self.handle_on_status_command(command.args, body),
             CommandName::Other => {
-                self.raised(ClientSessionEvent::UnhandleableAmf0Command(command))
+                self.raised(ClientSessionEvent::UnhandleableAmf0Command {
+                    start: command.start,
+                    len: command.len,
+                    number: command.number,
+                    object: command.object,
+                    args: command.args,
+                })
             }
         }
     }

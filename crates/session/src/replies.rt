@@ -37,7 +37,7 @@ ghost use Rattle.session.specs.Comes.{Comes, packetOf};
 
 // The results of a connect that was accepted: a window size of 4 bytes, the event, and a chunk size of 4 bytes after the window size.
 fn accepted_results(clock: RtmpTimestamp) -> Outcome
-    ensures { λ r. ⌜ r ≡ Outcome.Three (packetOf 5 clock (record { 0 = 0 }) false 4) (ClientSessionResult.RaisedEvent ClientSessionEvent.ConnectionRequestAccepted) (ClientSessionResult.OutboundResponse (record { «type_id» = 1; time = record { 0 = 0 }; stream = record { 0 = 0 }; droppable = false; uncompressed = true; start = 4; len = 4 })) ⌝ }
+    ensures { λ r. ⌜ r ≡ Outcome.Accepted (packetOf 5 clock (record { 0 = 0 }) false 4) (record { «type_id» = 1; time = record { 0 = 0 }; stream = record { 0 = 0 }; droppable = false; uncompressed = true; start = 4; len = 4 }) ⌝ }
 {
     let size = Packet {
         type_id: 1,
@@ -48,11 +48,7 @@ fn accepted_results(clock: RtmpTimestamp) -> Outcome
         start: 4,
         len: 4,
     };
-    Outcome::Three(
-        sending::packet(5, clock, StreamNumber(0), false, 4),
-        ClientSessionResult::RaisedEvent(ClientSessionEvent::ConnectionRequestAccepted),
-        ClientSessionResult::OutboundResponse(size),
-    )
+    Outcome::Accepted(sending::packet(5, clock, StreamNumber(0), false, 4), size)
 }
 
 // Playback asks for two messages, the first of 10 bytes, and publishing for one.
@@ -97,13 +93,11 @@ fn grant_results(
                 start: 10,
                 len: len - 10,
             };
-            Outcome::Two(
-                sending::packet(4, clock, StreamNumber(0), false, 10),
-                ClientSessionResult::OutboundResponse(play),
-            )
+            Outcome::Two(sending::packet(4, clock, StreamNumber(0), false, 10), play)
         }
         TransactionPurpose::PublishRequest(_) => {
-            Outcome::One(sending::packet(20, clock, stream, false, len))
+            let publish = sending::packet(20, clock, stream, false, len);
+            Outcome::One(ClientSessionResult::OutboundResponse(publish))
         }
     }
 }
@@ -209,7 +203,11 @@ impl ClientSession {
         let found = requests.close(TransactionNumber(number));
         let answer = found.answer;
         let CloseAnswer::Request(kind) = answer else {
-            return self.raised(ClientSessionEvent::UnknownTransactionResultReceived(command));
+            return self.raised(ClientSessionEvent::UnknownTransactionResultReceived {
+                number: command.number,
+                object: command.object,
+                args: command.args,
+            });
         };
         let rest = found.requests;
         let closed = self.with_requests(rest);
@@ -232,7 +230,11 @@ impl ClientSession {
         let found = requests.close(TransactionNumber(number));
         let answer = found.answer;
         let CloseAnswer::Request(kind) = answer else {
-            return self.raised(ClientSessionEvent::UnknownTransactionResultReceived(command));
+            return self.raised(ClientSessionEvent::UnknownTransactionResultReceived {
+                number: command.number,
+                object: command.object,
+                args: command.args,
+            });
         };
         let rest = found.requests;
         let closed = self.with_requests(rest);

@@ -27,8 +27,8 @@ use Rattle.messages.specs.declared.rtmp_message.UserControlEvent.{UserControlEv
 use Rattle.messages.specs.declared.stream_metadata.StreamMetadata.{StreamMetadata}
 use Rattle.session.specs.Calls.{raises, unhandled, Results, nothing, one}
 use Rattle.session.specs.Outcomes.{inTurn, sentBy, bodies, output, outcomeOf}
-use Rattle.session.specs.Plan.{Plan, go, close as closing}
-use Rattle.session.specs.Step.{Stepped, away as turned, fitted}
+use Rattle.session.specs.Plan.{go, close as closing}
+use Rattle.session.specs.Step.{away as turned, fitted}
 use Rattle.session.specs.Message.{isActive, ifActive, dataIn, controlIn, noticed, commandOf, onMessage}
 use Rattle.session.specs.Comes.{Comes, refusedWith, quiet}
 use Rattle.session.specs.declared.errors.ClientSessionError.{ClientSessionError}
@@ -40,7 +40,7 @@ use Rattle.session.specs.declared.record.ClientSession.{ClientSession}
 use Rattle.session.specs.declared.result.ClientSessionResult.the-variants.{RaisedEvent, UnhandleableMessageReceived}
 use Rattle.session.specs.declared.result.Outcome.{Outcome}
 use Rattle.session.specs.declared.result.Outcome.the-variants.{One}
-use Rattle.session.proofs.StepLaws.{quiet-goes}
+use Rattle.session.proofs.StepLaws.{comes-to, quiet-goes}
 
 -- a body that was written fitted, and has that length; one that wasn't didn't fit
 pub done-length : {old b exit : List ℕ} {w : Wrote} {n : ℕ} → Written old b exit w → w ≡ Done n → n ≡ length b
@@ -65,11 +65,6 @@ short-fits {old} {b} {w = w} h d =
     (λ f. absurd (let e : w ≡ Done (length b) = h .answered ∙ rw f in let z : _≡_ {A = ℕ} 0 1 = cc in omega arith))
 
 module _ {s : ClientSession} {old : List ℕ} {r : Called} where
-  -- what a plan comes to, worked out
-  comes-to : {p : Plan} {exit : List ℕ} (t : Stepped)
-      → fitted s old p ≡ t → r ≡ record { outcome = t .outcome; session = t .session } → exit ≡ t .output → Comes s p old r exit
-  comes-to t f q e = record { answers = rw (f, q); handsBack = rw (f, q); leaves = rw (f, e) }
-
   -- turned away with a request closed
   pub closed-away : {e : ClientSessionError} {after : ClientSession} → r ≡ refusedWith after e → Comes s (closing e after) old r old
   unfolding fitted

@@ -42,18 +42,18 @@ use Rattle.requests.specs.declared.text.Text.{Text}
 use Rattle.session.specs.Record.{textsSound, chunkSound, isSession, withProgress, withRequests}
 use Rattle.session.specs.Outcomes.{inTurn, sentBy, bodies, output, outcomeOf}
 use Rattle.session.specs.Plan.{go}
-use Rattle.session.specs.Message.{afterClosing, accepted, grantSends, requestedStage, granted, resultOf, resultTo, errorOf, errorTo}
+use Rattle.session.specs.Message.{afterClosing, accepted, grantSends, requestedStage, granted, unknownReply, resultOf, resultTo, errorOf, errorTo}
 use Rattle.session.specs.Comes.{Comes, refusedWith, packetOf}
 use Rattle.session.specs.declared.errors.ClientSessionError.the-variants.{Space}
-use Rattle.session.specs.declared.events.ClientSessionEvent.the-variants.{ConnectionRequestAccepted, ConnectionRequestRejected, UnknownTransactionResultReceived}
+use Rattle.session.specs.declared.events.ClientSessionEvent.the-variants.{ConnectionRequestRejected}
 use Rattle.session.specs.declared.record.ActiveStream.{ActiveStream}
 use Rattle.session.specs.declared.record.ActiveStream.the-variants as active
 use Rattle.session.specs.declared.record.Called.{Called}
 use Rattle.session.specs.declared.record.ClientSession.{ClientSession}
-use Rattle.session.specs.declared.result.ClientSessionResult.{ClientSessionResult}
 use Rattle.session.specs.declared.result.ClientSessionResult.the-variants.{OutboundResponse, RaisedEvent}
 use Rattle.session.specs.declared.result.Outcome.{Outcome}
-use Rattle.session.specs.declared.result.Outcome.the-variants.{One, Two, Three}
+use Rattle.session.specs.declared.result.Outcome.the-variants.{One, Two, Accepted}
+use Rattle.session.specs.declared.result.Packet.{Packet}
 use Rattle.session.specs.declared.state.ClientState.{ClientState}
 use Rattle.session.specs.declared.state.ClientState.the-variants.{Connected}
 use Rattle.session.proofs.MessageLaws.{as-after, goes-short, goes-done, raised-goes, raised-after}
@@ -108,9 +108,9 @@ module _ (s : ClientSession) (clock : RtmpTimestamp) (b : List ℕ) (key : Text)
   unfolding inTurn sentBy bodies
   publish-written e h = rw (e, append-nil) h
 
-  pub play-answered : {n : ℕ} {a : ClientSessionResult} → p ≡ PlayRequest → n ≡ length (output (grantSends s clock b p key x))
+  pub play-answered : {n : ℕ} {a : Packet} → p ≡ PlayRequest → n ≡ length (output (grantSends s clock b p key x))
       → a ≡ packetOf 4 clock (record { 0 = 0 }) false 10
-      → Two a (OutboundResponse (record { «type_id» = 20; time = clock; stream = x; droppable = false; uncompressed = false; start = 10; len = n - 10 }))
+      → Two a (record { «type_id» = 20; time = clock; stream = x; droppable = false; uncompressed = false; start = 10; len = n - 10 })
       ≡ outcomeOf (grantSends s clock b p key x)
   unfolding inTurn sentBy bodies outcomeOf
   play-answered {n} e l f =
@@ -120,8 +120,8 @@ module _ (s : ClientSession) (clock : RtmpTimestamp) (b : List ℕ) (key : Text)
       let m : n - 10 ≡ length (playBody (textOf key)) = omega (arith, length-append c (playBody (textOf key))) in
       rw (e, f, m, t)
 
-  pub publish-answered : {n : ℕ} {t : PublishRequestType} {a : ClientSessionResult} → p ≡ PublishRequest t → n ≡ length (output (grantSends s clock b p key x))
-      → a ≡ packetOf 20 clock x false n → One a ≡ outcomeOf (grantSends s clock b p key x)
+  pub publish-answered : {n : ℕ} {t : PublishRequestType} {a : Packet} → p ≡ PublishRequest t → n ≡ length (output (grantSends s clock b p key x))
+      → a ≡ packetOf 20 clock x false n → One (OutboundResponse a) ≡ outcomeOf (grantSends s clock b p key x)
   unfolding inTurn sentBy bodies outcomeOf
   publish-answered {n} {t} e l f = let m : n ≡ length (publishBody (textOf key) t) = rw (e, append-nil) at l in rw (e, f, m)
 
@@ -142,8 +142,8 @@ module _ {s : ClientSession} {old : List ℕ} {r : Called} (clock : RtmpTimestam
     pub accept-done : {k : ℕ} {c a : ClientSession} {o : Outcome}
         → Written old (wordBody (s .config .«window_ack_size») ++ wordBody (s .config .«chunk_size»)) exit w → w ≡ Done k
         → c ≡ afterClosing s clock b n → a ≡ withProgress c Connected (s .progress .active)
-        → o ≡ Three (packetOf 5 clock (record { 0 = 0 }) false 4) (RaisedEvent ConnectionRequestAccepted)
-        (OutboundResponse (record { «type_id» = 1; time = record { 0 = 0 }; stream = record { 0 = 0 }; droppable = false; uncompressed = true; start = 4; len = 4 }))
+        → o ≡ Accepted (packetOf 5 clock (record { 0 = 0 }) false 4)
+        (record { «type_id» = 1; time = record { 0 = 0 }; stream = record { 0 = 0 }; droppable = false; uncompressed = true; start = 4; len = 4 })
         → r ≡ record { outcome = o; session = a } → Comes s (accepted s clock b n) old r exit
     unfolding inTurn sentBy bodies outcomeOf
     accept-done h e f g o q =
@@ -169,11 +169,11 @@ closes s clock b m x e a w = w ∙ ap (withRequests s) (known (s .requests) m x 
 
 module _ {s : ClientSession} {old : List ℕ} {r : Called} (clock : RtmpTimestamp) (b : List ℕ)
     (k : Command) {m : ℕ} {x : Closed} (h : m ≡ held (k .number)) (e : x ≡ closeOf (s .requests) (record { 0 = m })) where
-  pub result-unknown : x .answer ≡ answer.Unknown → r ≡ record { outcome = One (RaisedEvent (UnknownTransactionResultReceived k)); session = s }
+  pub result-unknown : x .answer ≡ answer.Unknown → r ≡ record { outcome = One (RaisedEvent (unknownReply k)); session = s }
       → Comes s (resultTo s clock b k (held (k .number)) (lookup (held (k .number)) (s .requests .places))) old r old
   result-unknown a q = let u = unknown (s .requests) m x e a in rw (← h) (rw u (raised-goes q))
 
-  pub error-unknown : x .answer ≡ answer.Unknown → r ≡ record { outcome = One (RaisedEvent (UnknownTransactionResultReceived k)); session = s }
+  pub error-unknown : x .answer ≡ answer.Unknown → r ≡ record { outcome = One (RaisedEvent (unknownReply k)); session = s }
       → Comes s (errorTo s clock b k (held (k .number)) (lookup (held (k .number)) (s .requests .places))) old r old
   error-unknown a q = let u = unknown (s .requests) m x e a in rw (← h) (rw u (raised-goes q))
 
