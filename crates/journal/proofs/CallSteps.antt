@@ -7,7 +7,7 @@ use contract.Lifetimes.{Lfts}
 use borrow.Fn.Kinds.{Dens, endedOf}
 use denote.Triple.Clauses.{AtExit}
 use denote.Ref.{now}
-use Rattle.session.specs.Calls.{connect, play, publish, stopPlayback, stopPublishing, ping, picture, sound, metadata, bytes}
+use Rattle.session.specs.Calls.{connect, play, publish, stopPlayback, stopPublishing, ping, picture, sound, metadata, bytes, message}
 use Rattle.session.specs.declared.record.Called.{Called}
 use Rattle.session.specs.declared.result.Outcome.the-variants.{Nothing}
 use Rattle.session.proofs.record.ClientSession.new.Kinds as new-kinds
@@ -32,6 +32,8 @@ use Rattle.session.proofs.record.ClientSession.publish_metadata.Kinds as publis
 use Rattle.session.proofs.record.ClientSession.publish_metadata.Reads as publish-metadata
 use Rattle.session.proofs.record.ClientSession.handle_bytes.Kinds as handle-bytes-kinds
 use Rattle.session.proofs.record.ClientSession.handle_bytes.Reads as handle-bytes
+use Rattle.session.proofs.record.ClientSession.handle_message.Kinds as handle-message-kinds
+use Rattle.session.proofs.record.ClientSession.handle_message.Reads as handle-message
 use Rattle.journal.specs.Lines.{Journal}
 use Rattle.journal.specs.Trace.{lineOf, Trace, opened, called}
 
@@ -78,3 +80,7 @@ publish-metadata-step κs a r x d t = called t _ (a .1 .0) (now (a .1 .1 .1 .1 .
 pub handle-bytes-step : (κs : Lfts 1) (a : Dens κs handle-bytes-kinds.ps) (r : Called) (x : AtExit (endedOf 1 handle-bytes-kinds.ps handle-bytes-kinds.r) κs)
     → handle-bytes.Learnt κs a r x → {j : Journal} → Trace (a .0) j → Trace (r .session) (lineOf (bytes (a .1 .1 .0)) (r .outcome) (now (x .1 .1 .1 .0)) ∷ j)
 handle-bytes-step κs a r x d t = called t _ (a .1 .0) (now (a .1 .1 .1 .0)) r (now (x .1 .1 .1 .0)) d
+
+pub handle-message-step : (κs : Lfts 2) (a : Dens κs handle-message-kinds.ps) (r : Called) (x : AtExit (endedOf 2 handle-message-kinds.ps handle-message-kinds.r) κs)
+    → handle-message.Learnt κs a r x → {j : Journal} → Trace (a .0) j → Trace (r .session) (lineOf (message (a .1 .1 .0) (a .1 .1 .1 .0) (a .1 .1 .1 .1 .0) (now (a .1 .1 .1 .1 .1 .0))) (r .outcome) (now (x .1 .1 .1 .1 .1 .1 .0)) ∷ j)
+handle-message-step κs a r x d t = called t _ (a .1 .0) (now (a .1 .1 .1 .1 .1 .1 .0)) r (now (x .1 .1 .1 .1 .1 .1 .0)) d

@@ -28,7 +28,7 @@ impl ClientSessionConfig {
     }
 
     // Whether the texts are such as opening accepts; a tc_url counts if one is configured.
-    pub fn texts_sound(self) -> bool
+    pub(crate) fn texts_sound(self) -> bool
         ensures { λ r. ⌜ r ≡ textsSound self ⌝ }
     {
         let flash = self.flash_version;

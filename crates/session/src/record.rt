@@ -53,7 +53,7 @@ pub struct Called {
 
 impl ClientSession {
     // Whether refusal 13 doesn't meet the record.
-    pub fn is_session(self) -> bool
+    pub(crate) fn is_session(self) -> bool
         ensures { λ r. ⌜ r ≡ isSession self ⌝ }
     {
         let config = self.config;
