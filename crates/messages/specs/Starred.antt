@@ -33,7 +33,7 @@ Says (body t h m) = placed (unhex h) (decode t (unhex h)) ≡ m
 Says (code-in h k) = codeAt (unhex h) (unhex h) ≡ k
 Says (width-in h w) = metadataAt (unhex h) (unhex h) .«video_width» ≡ w
 
--- The first two are starred in document 01, "Spindle cases": both sizes are read, and the session judges them. The others are not.
+-- None is starred in document 01: of its two peer sizes a body says no more than the number, and the session judges it.
 -- Types stand as the numbers that come, so that the rows also say which type has which number.
 abbrev pub rows : List Row
 rows =

@@ -175,7 +175,7 @@ quiet = record { chunk = 128; window = window.None; pending = 0; total = 0 }
 
 -- ---- the runs
 
--- from connect to a stop. Starred: the bytes of createStream, and a stop at Connected. Refusals 8 and 12 keep the request open
+-- from connect to a stop. Starred: a stop at Connected. Refusals 8 and 12 keep the request open
 abbrev pub publishing : List Line
 publishing =
     line 5 (connect (ascii "app")) 88 (sent 20 5 0 false 86)
