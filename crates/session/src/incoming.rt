@@ -6,8 +6,6 @@ use crate::record::Called;
 use crate::record::ClientSession;
 use crate::record::Link;
 use crate::record::PeerWindow;
-use crate::result::ClientSessionResult;
-use crate::result::Outcome;
 use crate::stages;
 use messages::Command;
 use messages::CommandName;
@@ -20,7 +18,7 @@ ghost use mathlib.Core.Path.{_≡_};
 ghost use mathlib.Core.Bool.{true};
 ghost use mathlib.Core.List.{List};
 ghost use Prim.Native.Nat.{ℕ};
-ghost use Rattle.session.specs.Record.{isSession, withLink};
+ghost use Rattle.session.specs.Record.{isSession};
 ghost use Rattle.session.specs.Calls.{message as messageCall};
 ghost use Rattle.session.specs.Message.{isActive, ifActive, mediaIn, dataIn, controlIn, windowIn, chunkIn, commandOf, onMessage};
 ghost use Rattle.session.specs.Comes.{Comes};
@@ -36,44 +34,6 @@ fn is_active(active: ActiveStream, stream: StreamNumber) -> bool
 }
 
 impl ClientSession {
-    // Results, and the session after them.
-    pub(crate) fn with_outcome(self, outcome: Outcome) -> Called
-        ensures { λ r. ⌜ r ≡ record { outcome = outcome; session = self } ⌝ }
-    {
-        Called {
-            outcome,
-            session: self,
-        }
-    }
-
-    // One event.
-    pub(crate) fn raised(self, event: ClientSessionEvent) -> Called
-        ensures { λ r. ⌜ r ≡ record { outcome = Outcome.One (ClientSessionResult.RaisedEvent event); session = self } ⌝ }
-    {
-        Called {
-            outcome: Outcome::One(ClientSessionResult::RaisedEvent(event)),
-            session: self,
-        }
-    }
-
-    // A message that the session doesn't handle.
-    fn unhandled(self, type_id: u8) -> Called
-        ensures { λ r. ⌜ r ≡ record { outcome = Outcome.One (ClientSessionResult.UnhandleableMessageReceived «type_id»); session = self } ⌝ }
-    {
-        Called {
-            outcome: Outcome::One(ClientSessionResult::UnhandleableMessageReceived(type_id)),
-            session: self,
-        }
-    }
-
-    fn with_link(self, link: Link) -> ClientSession
-        ensures { λ r. ⌜ r ≡ withLink self link ⌝ }
-    {
-        let mut after = self;
-        after.link = link;
-        after
-    }
-
     // An event of a message on the active stream; a message on another stream comes to nothing.
     fn if_active(self, stream: StreamNumber, event: ClientSessionEvent) -> Called
         ensures { λ r. ⌜ ((clock : RtmpTimestamp) (b old : List ℕ) → Comes self (ifActive self clock b stream event) old r old) ⌝ }

@@ -4,6 +4,7 @@ use crate::events::ClientSessionEvent;
 use crate::record::Called;
 use crate::record::ClientSession;
 use crate::record::Progress;
+use crate::stages;
 use crate::state::ClientState;
 use messages::OnStatus;
 use messages::RtmpTimestamp;
@@ -12,34 +13,8 @@ ghost use mathlib.Core.List.{List};
 ghost use Prim.Native.Nat.{ℕ};
 ghost use lib.ListN.{drop};
 ghost use Rattle.messages.specs.Notice.{codeAt};
-ghost use Rattle.session.specs.Message.{isPlayRequested, isPublishRequested, noticed};
+ghost use Rattle.session.specs.Message.{noticed};
 ghost use Rattle.session.specs.Comes.{Comes};
-
-fn is_play_requested(state: ClientState) -> bool
-    ensures { λ r. ⌜ r ≡ isPlayRequested state ⌝ }
-{
-    match state {
-        ClientState::Disconnected => false,
-        ClientState::Connected => false,
-        ClientState::PlayRequested => true,
-        ClientState::Playing => false,
-        ClientState::PublishRequested => false,
-        ClientState::Publishing => false,
-    }
-}
-
-fn is_publish_requested(state: ClientState) -> bool
-    ensures { λ r. ⌜ r ≡ isPublishRequested state ⌝ }
-{
-    match state {
-        ClientState::Disconnected => false,
-        ClientState::Connected => false,
-        ClientState::PlayRequested => false,
-        ClientState::Playing => false,
-        ClientState::PublishRequested => true,
-        ClientState::Publishing => false,
-    }
-}
 
 impl ClientSession {
     fn handle_play_start(self) -> Called
@@ -47,7 +22,7 @@ impl ClientSession {
     {
         let progress = self.progress;
         let state = progress.state;
-        if !is_play_requested(state) {
+        if !stages::is_play_requested(state) {
             return self.refused(ClientSessionError::SessionInInvalidState(state));
         }
         let active = progress.active;
@@ -63,7 +38,7 @@ impl ClientSession {
     {
         let progress = self.progress;
         let state = progress.state;
-        if !is_publish_requested(state) {
+        if !stages::is_publish_requested(state) {
             return self.refused(ClientSessionError::SessionInInvalidState(state));
         }
         let active = progress.active;

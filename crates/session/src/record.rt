@@ -1,6 +1,7 @@
 // The session record. Anyone may make any value of it: refusal 13 meets those that are no session.
 use crate::config::ClientSessionConfig;
 use crate::errors::ClientSessionError;
+use crate::events::ClientSessionEvent;
 use crate::result::ClientSessionResult;
 use crate::result::Outcome;
 use crate::result::Packet;
@@ -96,6 +97,36 @@ impl ClientSession {
         }
     }
 
+    // Results, and the session after them.
+    pub(crate) fn with_outcome(self, outcome: Outcome) -> Called
+        ensures { λ r. ⌜ r ≡ record { outcome = outcome; session = self } ⌝ }
+    {
+        Called {
+            outcome,
+            session: self,
+        }
+    }
+
+    // One event.
+    pub(crate) fn raised(self, event: ClientSessionEvent) -> Called
+        ensures { λ r. ⌜ r ≡ record { outcome = Outcome.One (ClientSessionResult.RaisedEvent event); session = self } ⌝ }
+    {
+        Called {
+            outcome: Outcome::One(ClientSessionResult::RaisedEvent(event)),
+            session: self,
+        }
+    }
+
+    // A message that the session doesn't handle.
+    pub(crate) fn unhandled(self, type_id: u8) -> Called
+        ensures { λ r. ⌜ r ≡ record { outcome = Outcome.One (ClientSessionResult.UnhandleableMessageReceived «type_id»); session = self } ⌝ }
+    {
+        Called {
+            outcome: Outcome::One(ClientSessionResult::UnhandleableMessageReceived(type_id)),
+            session: self,
+        }
+    }
+
     // A ping request, and the time that it carries.
     pub(crate) fn pinged(self, request: Packet, time: RtmpTimestamp) -> Called
         ensures { λ r. ⌜ r ≡ record { outcome = Outcome.Pinged request time; session = self } ⌝ }
@@ -119,6 +150,14 @@ impl ClientSession {
     {
         let mut after = self;
         after.requests = requests;
+        after
+    }
+
+    pub(crate) fn with_link(self, link: Link) -> ClientSession
+        ensures { λ r. ⌜ r ≡ withLink self link ⌝ }
+    {
+        let mut after = self;
+        after.link = link;
         after
     }
 

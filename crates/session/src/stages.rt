@@ -2,6 +2,7 @@
 use crate::state::ClientState;
 ghost use mathlib.Core.Path.{_≡_};
 ghost use Rattle.session.specs.Plan.{isDisconnected, isConnected, isPlay, isPublish, isPublishing};
+ghost use Rattle.session.specs.Message.{isPlayRequested, isPublishRequested};
 
 pub(crate) fn is_disconnected(state: ClientState) -> bool
     ensures { λ r. ⌜ r ≡ isDisconnected state ⌝ }
@@ -67,5 +68,31 @@ pub(crate) fn is_publishing(state: ClientState) -> bool
         ClientState::Playing => false,
         ClientState::PublishRequested => false,
         ClientState::Publishing => true,
+    }
+}
+
+pub(crate) fn is_play_requested(state: ClientState) -> bool
+    ensures { λ r. ⌜ r ≡ isPlayRequested state ⌝ }
+{
+    match state {
+        ClientState::Disconnected => false,
+        ClientState::Connected => false,
+        ClientState::PlayRequested => true,
+        ClientState::Playing => false,
+        ClientState::PublishRequested => false,
+        ClientState::Publishing => false,
+    }
+}
+
+pub(crate) fn is_publish_requested(state: ClientState) -> bool
+    ensures { λ r. ⌜ r ≡ isPublishRequested state ⌝ }
+{
+    match state {
+        ClientState::Disconnected => false,
+        ClientState::Connected => false,
+        ClientState::PlayRequested => false,
+        ClientState::Playing => false,
+        ClientState::PublishRequested => true,
+        ClientState::Publishing => false,
     }
 }
