@@ -1,0 +1,15 @@
+-- `script_results::hex::glyph` meets its contract.
+-- Assumes nothing.
+use borrow.Author.Needs.{needs}
+use borrow.Author.Tests.{lt-ltb, le-ltb}
+use Rattle.script_results.proofs.hex.glyph.Statement.{statement}
+use Rattle.script_results.proofs.hex.glyph.Tie as tie
+
+returns : tie.Need-returns
+returns c = simp (lt-ltb _ _ (c .if1 .taken))
+
+returns-2 : tie.Need-returns-2
+returns-2 c = simp (le-ltb _ _ (c .if1 .left))
+
+pub glyph-spec : {M : Type 1} → statement M
+glyph-spec = tie.close (tie.spec (λ c. search needs) returns (λ c. search needs) returns-2)
