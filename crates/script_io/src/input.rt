@@ -32,12 +32,6 @@ fn unreadable(st: Standing) -> Standing {
     stopped(st)
 }
 
-fn holding(st: Standing, held: usize) -> Standing {
-    let mut after = st;
-    after.held = held;
-    after
-}
-
 // The end of the input: `last` is a line without a newline, or empty.
 fn finish(
     running: Running,
@@ -56,7 +50,7 @@ fn finish(
 
 // Moves what stands from `from` to `to` to the front: how much that is.
 fn shift(buf: &mut [u8], from: usize, to: usize) -> usize
-    requires { ⌜ (from ≤ to) × (to ≤ length (now buf)) ⌝ }
+    requires { ⌜ to ≤ length (now buf) ⌝ }
     ensures { λ r. ⌜ r ≤ length (now (buf .entry)) ⌝ }
 {
     let mut i = 0;
@@ -67,6 +61,57 @@ fn shift(buf: &mut [u8], from: usize, to: usize) -> usize
         j += 1;
     }
     i
+}
+
+// The lines that end in the first `filled` bytes, of which `held` were there before the last read; what is left is held.
+fn taken_in(
+    running: Running,
+    buf: &mut [u8],
+    held: usize,
+    filled: usize,
+    body: &mut [u8],
+    out: &mut [u8],
+    text: &mut [u8],
+) -> Running
+    requires { ⌜ filled ≤ length (now buf) ⌝ }
+{
+    let taken = lines::whole_lines(running, &buf[0..filled], held, body, out, text);
+    let from = taken.from;
+    let after = taken.running;
+    let session = after.session;
+    let mut standing = after.standing;
+    standing.held = shift(buf, from, filled);
+    Running { standing, session }
+}
+
+// One read, after the bytes that are held.
+fn read_after(buf: &mut [u8], held: usize) -> isize
+    requires { ⌜ held ≤ length (now buf) ⌝ }
+{
+    libc::read(STDIN_FILENO, &mut buf[held..])
+}
+
+// What a read that answered `got` brought.
+fn brought(
+    running: Running,
+    got: isize,
+    buf: &mut [u8],
+    held: usize,
+    body: &mut [u8],
+    out: &mut [u8],
+    text: &mut [u8],
+) -> Running
+    requires { ⌜ held ≤ length (now buf) ⌝ }
+{
+    let n = io::count(got, &buf[held..]);
+    if got < 0 {
+        let st = running.standing;
+        return lines::with_standing(running, unreadable(st));
+    }
+    if n == 0 {
+        return finish(running, octets::part(buf, 0, held), body, out, text);
+    }
+    taken_in(running, buf, held, held + n, body, out, text)
 }
 
 // One read, and the lines that it ends.
@@ -82,21 +127,8 @@ fn turn(
     if buf.len() <= held {
         return lines::with_standing(running, too_long(st));
     }
-    let got = libc::read(STDIN_FILENO, &mut buf[held..]);
-    if got < 0 {
-        return lines::with_standing(running, unreadable(st));
-    }
-    if got == 0 {
-        return finish(running, octets::part(buf, 0, held), body, out, text);
-    }
-    let n = io::count(got, &buf[held..]);
-    let filled = held + n;
-    let taken = lines::whole_lines(running, &buf[0..filled], held, body, out, text);
-    let from = taken.from;
-    let after = taken.running;
-    let left = shift(buf, from, filled);
-    let latest = after.standing;
-    lines::with_standing(after, holding(latest, left))
+    let got = read_after(buf, held);
+    brought(running, got, buf, held, body, out, text)
 }
 
 // Writes the results that wait; one that can't be written ends the run.

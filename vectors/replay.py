@@ -1,5 +1,5 @@
 #!/usr/bin/env python3
-"""Writes scripts for the program `card` and what it has to answer: scripts/NAME.in and scripts/NAME.out, and all of them joined, stdin and stdout.
+"""Writes crates/replay/stdin, scripts for the program `card` joined to one, and crates/replay/stdout, what it has to answer.
 
 What is expected comes from a model of the whole session (replay_model.py) and of the program's lines (replay_card.py), written from document 01, its
 readings, RTMP 1.0 and AMF0. In the scripts that are written by hand each line stands beside what document 01 says that it gives (replay_notation.py
@@ -12,13 +12,11 @@ over the journal alone, and with its law on the sum of all acknowledgements. A c
   replay_bodies.py     "Bodies", as far as `card` shows them
   replay_lines.py      the lines of `card`, readings 26 and 27
   replay_walks.py      random walks
-  long/                texts of 65,535 bytes that come in, which only a long enough line can hold; they are not joined
 
-A script starts at the default session that the program opens. Joined, each starts with an `open` line instead, and the numbers of the lines run on.
-Scripts with lines that can't be read stand last but one, and last of all the one that ends without a newline.
+Each starts with an `open` line, and the numbers of the lines run on. Scripts with lines that can't be read stand last but one, and last of all the one
+that ends without a newline.
 """
 import os
-import shutil
 
 import replay_bodies
 import replay_lines
@@ -31,9 +29,6 @@ from replay_card import Card
 from replay_notation import REPLY, connect, error, msg, play, result, script, scripts, status
 
 HERE = os.path.dirname(os.path.abspath(__file__))
-GROUPS = [('named', replay_named.make), ('refusals', replay_refusals.make), ('work', replay_work.make), ('bodies', replay_bodies.make),
-    ('lines', replay_lines.readable), ('verbs', replay_lines.verbs),
-          ('walks', replay_walks.make), ('unreadable', replay_lines.unreadable), ('last', replay_lines.last)]
 
 
 def long_texts():
@@ -43,6 +38,11 @@ def long_texts():
            '0 out20', result(2.0, obj((b'n' * 65535, NULL))), REPLY,
            play(), '1 out20', result(3.0, num(5.0), t), '2 out4 out20#5', status(b'c' * 65535), '2 event9',
            msg(18, text(b'onMetaData') + ecma((b'encoder', t)), 5), '2 event4')
+
+
+GROUPS = [('named', replay_named.make), ('refusals', replay_refusals.make), ('work', replay_work.make), ('bodies', replay_bodies.make),
+          ('lines', replay_lines.readable), ('verbs', replay_lines.verbs), ('long', long_texts),
+          ('walks', replay_walks.make), ('unreadable', replay_lines.unreadable), ('last', replay_lines.last)]
 
 
 def joined():
@@ -74,27 +74,15 @@ def write(path, data):
         f.write(data)
 
 
-def folder(name, which):
-    shutil.rmtree(os.path.join(HERE, name), ignore_errors=True)
-    os.mkdir(os.path.join(HERE, name))
-    for script_name, (given, answers) in which.items():
-        write(os.path.join(name, script_name + '.in'), given)
-        write(os.path.join(name, script_name + '.out'), answers)
-
-
 def main():
-    long_texts()
-    folder('long', dict(scripts))
-    scripts.clear()
     for name, make in GROUPS:
         before = len(scripts)
         make()
         new = list(scripts.values())[before:]
         print('%4d scripts %6d lines  %s' % (len(new), sum(map(lines_of, new)), name))
-    folder('scripts', scripts)
     given, answers = joined()
-    write('stdin', given)
-    write('stdout', answers)
+    write('../crates/replay/stdin', given)
+    write('../crates/replay/stdout', answers)
     print('%d scripts; joined %d lines in, %d lines out, %d and %d bytes' % (len(scripts), lines_of((given, answers)), answers.count(b'\n'),
         len(given), len(answers)))
 

@@ -4,6 +4,7 @@ use libc::STDOUT_FILENO;
 use octets::Wrote;
 use script::Why;
 use session::ClientSessionError;
+use session::ClientSessionEvent;
 use session::ClientSessionResult;
 use session::ClientState;
 use session::Outcome;
@@ -19,7 +20,7 @@ pub struct Waiting {
 // Says what is wrong with the line of that number.
 pub fn complain(line: u64, why: Why) {
     let mut text = [0u8; 128];
-    let wrote = script::write_complaint(&mut text, 0, line, why);
+    let wrote = script_results::write_complaint(&mut text, 0, line, why);
     match wrote {
         Wrote::NoSpace => {}
         Wrote::Done(n) => {
@@ -69,21 +70,22 @@ fn grown(waiting: Waiting, wrote: Wrote) -> Waiting {
     }
 }
 
-fn least(a: usize, b: usize) -> usize
-    ensures { λ r. ⌜ (r ≤ a) × (r ≤ b) ⌝ }
-    ensures { λ r. ⌜ (0 < a → 0 < b → 0 < r) ⌝ }
+// The end of the piece that starts at `from`.
+fn piece_end(from: usize, end: usize) -> usize
+    requires { ⌜ from < end ⌝ }
+    ensures { λ r. ⌜ (from < r) × (r ≤ end) ⌝ }
 {
-    if a < b {
-        return a;
+    if end - from < 1024 {
+        return end;
     }
-    b
+    from + 1024
 }
 
 // At most 1,024 bytes as digits.
 fn piece(text: &mut [u8], waiting: Waiting, bytes: &[u8]) -> Waiting {
     let ready = room(text, waiting);
     let used = ready.used;
-    let wrote = script::write_hex(text, used, bytes);
+    let wrote = script_results::write_hex(text, used, bytes);
     grown(ready, wrote)
 }
 
@@ -93,9 +95,8 @@ fn digits(text: &mut [u8], waiting: Waiting, body: &[u8]) -> Waiting {
     let mut at = 0;
     while at < body.len() {
         let from = at;
-        let n = least(body.len() - from, 1024);
-        at += n;
-        after = piece(text, after, octets::part(body, from, n));
+        at = piece_end(from, body.len());
+        after = piece(text, after, octets::part(body, from, 1024));
     }
     after
 }
@@ -103,7 +104,7 @@ fn digits(text: &mut [u8], waiting: Waiting, body: &[u8]) -> Waiting {
 fn newline(text: &mut [u8], waiting: Waiting) -> Waiting {
     let ready = room(text, waiting);
     let used = ready.used;
-    let wrote = script::write_at(text, used, b"\n");
+    let wrote = script_results::write_at(text, used, b"\n");
     grown(ready, wrote)
 }
 
@@ -116,13 +117,40 @@ fn packet(
     sent: Packet,
     out: &[u8],
 ) -> Waiting {
+    let ready = room(text, waiting);
     let start = sent.start;
     let len = sent.len;
-    let used = waiting.used;
-    let wrote = script::write_packet(text, used, line, stage, sent);
-    let head = grown(waiting, wrote);
+    let used = ready.used;
+    let wrote = script_results::write_packet(text, used, line, stage, sent);
+    let head = grown(ready, wrote);
     let whole = digits(text, head, octets::part(out, start, len));
     newline(text, whole)
+}
+
+fn event(
+    text: &mut [u8],
+    waiting: Waiting,
+    line: u64,
+    stage: ClientState,
+    raised: ClientSessionEvent,
+) -> Waiting {
+    let ready = room(text, waiting);
+    let used = ready.used;
+    let wrote = script_results::write_event(text, used, line, stage, raised);
+    grown(ready, wrote)
+}
+
+fn unhandled(
+    text: &mut [u8],
+    waiting: Waiting,
+    line: u64,
+    stage: ClientState,
+    type_id: u8,
+) -> Waiting {
+    let ready = room(text, waiting);
+    let used = ready.used;
+    let wrote = script_results::write_unhandled(text, used, line, stage, type_id);
+    grown(ready, wrote)
 }
 
 fn result(
@@ -133,17 +161,11 @@ fn result(
     given: ClientSessionResult,
     out: &[u8],
 ) -> Waiting {
-    let ready = room(text, waiting);
-    let used = ready.used;
     match given {
-        ClientSessionResult::OutboundResponse(p) => packet(text, ready, line, stage, p, out),
-        ClientSessionResult::RaisedEvent(event) => {
-            let wrote = script::write_event(text, used, line, stage, event);
-            grown(ready, wrote)
-        }
-        ClientSessionResult::UnhandleableMessageReceived(type_id) => {
-            let wrote = script::write_unhandled(text, used, line, stage, type_id);
-            grown(ready, wrote)
+        ClientSessionResult::OutboundResponse(p) => packet(text, waiting, line, stage, p, out),
+        ClientSessionResult::RaisedEvent(e) => event(text, waiting, line, stage, e),
+        ClientSessionResult::UnhandleableMessageReceived(t) => {
+            unhandled(text, waiting, line, stage, t)
         }
     }
 }
@@ -157,15 +179,45 @@ fn refused(
 ) -> Waiting {
     let ready = room(text, waiting);
     let used = ready.used;
-    let wrote = script::write_refused(text, used, line, stage, error);
+    let wrote = script_results::write_refused(text, used, line, stage, error);
     grown(ready, wrote)
 }
 
 fn nothing(text: &mut [u8], waiting: Waiting, line: u64, stage: ClientState) -> Waiting {
     let ready = room(text, waiting);
     let used = ready.used;
-    let wrote = script::write_none(text, used, line, stage);
+    let wrote = script_results::write_none(text, used, line, stage);
     grown(ready, wrote)
+}
+
+// Two messages to send.
+fn two(
+    text: &mut [u8],
+    waiting: Waiting,
+    line: u64,
+    stage: ClientState,
+    a: Packet,
+    b: Packet,
+    out: &[u8],
+) -> Waiting {
+    let first = packet(text, waiting, line, stage, a, out);
+    packet(text, first, line, stage, b, out)
+}
+
+// A connect that was accepted: its event stands between two messages.
+fn accepted(
+    text: &mut [u8],
+    waiting: Waiting,
+    line: u64,
+    stage: ClientState,
+    a: Packet,
+    b: Packet,
+    out: &[u8],
+) -> Waiting {
+    let first = packet(text, waiting, line, stage, a, out);
+    let raised = ClientSessionEvent::ConnectionRequestAccepted;
+    let second = event(text, first, line, stage, raised);
+    packet(text, second, line, stage, b, out)
 }
 
 // A line for each result in turn. A ping request's time stands in its message.
@@ -181,15 +233,8 @@ pub fn outcome(
         Outcome::Refused(error) => refused(text, waiting, line, stage, error),
         Outcome::Nothing => nothing(text, waiting, line, stage),
         Outcome::One(a) => result(text, waiting, line, stage, a, out),
-        Outcome::Two(a, b) => {
-            let first = result(text, waiting, line, stage, a, out);
-            result(text, first, line, stage, b, out)
-        }
-        Outcome::Three(a, b, c) => {
-            let first = result(text, waiting, line, stage, a, out);
-            let second = result(text, first, line, stage, b, out);
-            result(text, second, line, stage, c, out)
-        }
-        Outcome::Pinged(a, _) => result(text, waiting, line, stage, a, out),
+        Outcome::Two(a, b) => two(text, waiting, line, stage, a, b, out),
+        Outcome::Accepted(a, b) => accepted(text, waiting, line, stage, a, b, out),
+        Outcome::Pinged(a, _) => packet(text, waiting, line, stage, a, out),
     }
 }

@@ -130,7 +130,7 @@ def read_metadata(fields):
     for f in fields:
         name, sign, value = f.partition(b'=')
         name = name.decode('latin-1')
-        if not sign or name not in METADATA_READERS or name in found:
+        if not sign or name not in METADATA_READERS:
             raise Unreadable
         found[name] = METADATA_READERS[name](value)
     return [[found.get(n) for n in bodies.NAMES]]

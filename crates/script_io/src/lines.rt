@@ -1,9 +1,8 @@
 // Lines, one after the other: each is counted, run and answered.
-use crate::calling;
-use crate::calling::Came;
 use crate::results;
 use crate::results::Waiting;
 use script::Why;
+use script_run::Came;
 use session::ClientSession;
 use session::ClientSessionConfig;
 use session::ClientState;
@@ -81,13 +80,7 @@ fn shown(
     after
 }
 
-fn answered(
-    st: Standing,
-    stage: ClientState,
-    came: Came,
-    out: &[u8],
-    text: &mut [u8],
-) -> Standing {
+fn answered(st: Standing, stage: ClientState, came: Came, out: &[u8], text: &mut [u8]) -> Standing {
     match came {
         Came::Passed => st,
         Came::Unread(why) => unread(st, why, text),
@@ -118,7 +111,7 @@ fn one_line(
     let st = running.standing;
     let before = running.session;
     let n = lent(st.space, out);
-    let ran = calling::call(before, s, body, &mut out[0..n]);
+    let ran = script_run::run_line(before, s, body, &mut out[0..n]);
     let came = ran.came;
     let session = ran.session;
     let progress = session.progress;
