@@ -143,7 +143,7 @@ fn settled(st: Standing, text: &[u8]) -> Standing {
     after
 }
 
-pub fn step(
+pub(crate) fn step(
     running: Running,
     buf: &mut [u8],
     body: &mut [u8],

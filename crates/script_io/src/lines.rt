@@ -27,7 +27,7 @@ pub struct Running {
 }
 
 // A default session, and all of the output lent.
-pub fn start() -> Running {
+pub(crate) fn start() -> Running {
     let called = ClientSession::new(ClientSessionConfig::new());
     let session = called.session;
     let waiting = Waiting {
@@ -45,7 +45,7 @@ pub fn start() -> Running {
     Running { standing, session }
 }
 
-pub fn with_standing(running: Running, standing: Standing) -> Running {
+pub(crate) fn with_standing(running: Running, standing: Standing) -> Running {
     let session = running.session;
     Running { standing, session }
 }
@@ -137,7 +137,7 @@ fn passed_over(st: Standing) -> bool {
 }
 
 // A line that has its end.
-pub fn ended(
+pub(crate) fn ended(
     running: Running,
     s: &[u8],
     body: &mut [u8],
@@ -159,7 +159,7 @@ pub struct Taken {
 }
 
 // The lines of s that have their end. No newline stands before `seek`.
-pub fn whole_lines(
+pub(crate) fn whole_lines(
     running: Running,
     s: &[u8],
     seek: usize,

@@ -18,7 +18,7 @@ pub struct Waiting {
 }
 
 // Says what is wrong with the line of that number.
-pub fn complain(line: u64, why: Why) {
+pub(crate) fn complain(line: u64, why: Why) {
     let mut text = [0u8; 128];
     let wrote = script_results::write_complaint(&mut text, 0, line, why);
     match wrote {
@@ -30,7 +30,7 @@ pub fn complain(line: u64, why: Why) {
 }
 
 // Writes what waits. After a write that failed nothing more is written.
-pub fn flush(text: &[u8], waiting: Waiting) -> Waiting {
+pub(crate) fn flush(text: &[u8], waiting: Waiting) -> Waiting {
     let used = waiting.used;
     if waiting.failed {
         return emptied(true);
@@ -221,7 +221,7 @@ fn accepted(
 }
 
 // A line for each result in turn. A ping request's time stands in its message.
-pub fn outcome(
+pub(crate) fn outcome(
     text: &mut [u8],
     waiting: Waiting,
     line: u64,

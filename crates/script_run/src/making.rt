@@ -13,14 +13,19 @@ ghost use Rattle.session.specs.Calls.{connect, play, publish, stopPlayback, sto
 ghost use Rattle.script.specs.Metadata.{metadataLine};
 ghost use Rattle.script_run.specs.Asked.{calls, textAt, withMetadata, Runs};
 
-pub fn handle_bytes(session: ClientSession, clock: RtmpTimestamp, count: u32, out: &mut [u8]) -> Ran
+pub(crate) fn handle_bytes(
+    session: ClientSession,
+    clock: RtmpTimestamp,
+    count: u32,
+    out: &mut [u8],
+) -> Ran
     ensures { λ r. ⌜ Runs session (now (out .entry)) (calls clock (bytes count)) r (now (out .exit)) ⌝ }
 {
     let called = session.handle_bytes(clock, count, out);
     told(called)
 }
 
-pub fn request_connection(
+pub(crate) fn request_connection(
     session: ClientSession,
     clock: RtmpTimestamp,
     s: &[u8],
@@ -34,7 +39,7 @@ pub fn request_connection(
     told(called)
 }
 
-pub fn request_playback(
+pub(crate) fn request_playback(
     session: ClientSession,
     clock: RtmpTimestamp,
     s: &[u8],
@@ -48,7 +53,7 @@ pub fn request_playback(
     told(called)
 }
 
-pub fn request_publishing(
+pub(crate) fn request_publishing(
     session: ClientSession,
     clock: RtmpTimestamp,
     s: &[u8],
@@ -63,21 +68,21 @@ pub fn request_publishing(
     told(called)
 }
 
-pub fn stop_playback(session: ClientSession, clock: RtmpTimestamp, out: &mut [u8]) -> Ran
+pub(crate) fn stop_playback(session: ClientSession, clock: RtmpTimestamp, out: &mut [u8]) -> Ran
     ensures { λ r. ⌜ Runs session (now (out .entry)) (calls clock stopPlayback) r (now (out .exit)) ⌝ }
 {
     let called = session.stop_playback(clock, out);
     told(called)
 }
 
-pub fn stop_publishing(session: ClientSession, clock: RtmpTimestamp, out: &mut [u8]) -> Ran
+pub(crate) fn stop_publishing(session: ClientSession, clock: RtmpTimestamp, out: &mut [u8]) -> Ran
     ensures { λ r. ⌜ Runs session (now (out .entry)) (calls clock stopPublishing) r (now (out .exit)) ⌝ }
 {
     let called = session.stop_publishing(clock, out);
     told(called)
 }
 
-pub fn send_ping(session: ClientSession, clock: RtmpTimestamp, out: &mut [u8]) -> Ran
+pub(crate) fn send_ping(session: ClientSession, clock: RtmpTimestamp, out: &mut [u8]) -> Ran
     ensures { λ r. ⌜ Runs session (now (out .entry)) (calls clock ping) r (now (out .exit)) ⌝ }
 {
     let called = session.send_ping_request(clock, out);
@@ -85,7 +90,7 @@ pub fn send_ping(session: ClientSession, clock: RtmpTimestamp, out: &mut [u8]) -
 }
 
 // The fields stand after `to`, and the encoder's text in the line.
-pub fn publish_metadata(
+pub(crate) fn publish_metadata(
     session: ClientSession,
     clock: RtmpTimestamp,
     s: &[u8],

@@ -34,7 +34,7 @@ fn decode(s: &[u8], at: Span, body: &mut [u8]) -> Decoded
     }
 }
 
-pub fn handle_message(
+pub(crate) fn handle_message(
     session: ClientSession,
     clock: RtmpTimestamp,
     type_id: u8,
@@ -58,7 +58,7 @@ pub fn handle_message(
     }
 }
 
-pub fn publish_video(
+pub(crate) fn publish_video(
     session: ClientSession,
     clock: RtmpTimestamp,
     time: RtmpTimestamp,
@@ -81,7 +81,7 @@ pub fn publish_video(
     }
 }
 
-pub fn publish_audio(
+pub(crate) fn publish_audio(
     session: ClientSession,
     clock: RtmpTimestamp,
     time: RtmpTimestamp,

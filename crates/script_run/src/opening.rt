@@ -16,7 +16,7 @@ ghost use Rattle.session.specs.Record.{openOf};
 ghost use Rattle.script_run.specs.Asked.{textAt, isThere, isRefused, configOf, opened};
 
 // The text or the digits at a place of the line.
-pub fn part_of(s: &[u8], at: Span) -> &[u8]
+pub(crate) fn part_of(s: &[u8], at: Span) -> &[u8]
     ensures { λ r. ⌜ now r ≡ textAt (now (s .entry)) at ⌝ }
 {
     let start = at.start;
@@ -43,7 +43,7 @@ fn text_of(s: &[u8], text: TextAt) -> &[u8]
     }
 }
 
-pub fn config(s: &[u8], settings: Settings) -> ClientSessionConfig
+pub(crate) fn config(s: &[u8], settings: Settings) -> ClientSessionConfig
     ensures { λ r. ⌜ r ≡ configOf (now (s .entry)) settings ⌝ }
 {
     let flash = settings.flash;
@@ -75,7 +75,7 @@ fn is_refused(outcome: Outcome) -> bool
 }
 
 // A new session in the old one's place. The old one stays where opening is refused.
-pub fn open(session: ClientSession, config: ClientSessionConfig) -> Ran
+pub(crate) fn open(session: ClientSession, config: ClientSessionConfig) -> Ran
     ensures { λ r. ⌜ r ≡ opened session (openOf config) ⌝ }
 {
     let called = ClientSession::new(config);

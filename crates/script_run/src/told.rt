@@ -24,13 +24,13 @@ pub struct Ran {
 }
 
 // A line that makes no call.
-pub fn apart(session: ClientSession, came: Came) -> Ran
+pub(crate) fn apart(session: ClientSession, came: Came) -> Ran
     ensures { λ r. ⌜ r ≡ ran came session ⌝ }
 {
     Ran { came, session }
 }
 
-pub fn told(called: Called) -> Ran
+pub(crate) fn told(called: Called) -> Ran
     ensures { λ r. ⌜ r ≡ answered called ⌝ }
 {
     let outcome = called.outcome;
