@@ -1,0 +1,4 @@
+-- The laws that the proofs cite.
+pub mod TakenLaws
+pub mod Reading
+pub mod Lent
