@@ -1,24 +1,26 @@
--- Values to the end of the bytes: there are none, or a first one and those after it; nothing is left. And what the answers of `skip` and `count_values` tell.
+-- Values to the end of the bytes: there are none, or a first one and those after it; nothing is left. And what the answer of `count_values` tells, also where it counts only those after a value that was taken.
 -- Assumes nothing.
-use Prim.Native.Nat.{ℕ, zero, suc, _≤_}
+use Prim.Native.Nat.{ℕ, zero, suc}
 use native.Mathlib.Omega.{arith}
 use mathlib.Core.Path.{_≡_, refl, sym, ap, _∙_}
 use mathlib.Core.Bool.{Bool, true, false, cond}
 use mathlib.Core.List.{List, [], _∷_}
 use lib.Dec.{eqb}
 use lib.ListN.{length, drop}
-use borrow.Author.Tests.{eqb-true}
+use borrow.Author.Tests.{eqb-true, ne-eqb}
 use Rattle.octets.specs.Parse.{Parse, bad, got, and-then}
 use Rattle.octets.specs.BigEndian.{uint}
 use Rattle.amf0.specs.Value.{Value, number, boolean, text, object, null, undefined, strict, Values, nil, cons}
 use Rattle.amf0.specs.Decode.{topValue, toEnd, allValues}
-use Rattle.amf0.specs.Places.{kindAt, kindOf, endOf, countOf}
-use Rattle.amf0.specs.declared.read.Next.{Next}
-use Rattle.amf0.specs.declared.read.Next.the-variants as next
+use Rattle.amf0.specs.Places.{kindAt, kindOf, countOf}
 use Rattle.amf0.specs.declared.read.Counted.{Counted}
 use Rattle.amf0.specs.declared.read.Counted.the-variants as counted
-use Rattle.amf0.proofs.CutLaws.{clash, past-place, steps, wrapped, cuts-value, cuts-short, cuts-uint}
+use Rattle.amf0.proofs.CutLaws.{clash, steps, wrapped, past-length, cuts-value, cuts-short, cuts-uint}
+use Rattle.amf0.proofs.Fuel.{all-is}
 use Rattle.amf0.proofs.KindLaws.{told}
+use Rattle.reader.specs.declared.Taken.{Taken}
+use Rattle.reader.proofs.TakenLaws.{TakenAt}
+use Rattle.reader.proofs.TakenLaws as taken
 use Rattle.messages.specs.Steps.{argumentKind}
 use Rattle.messages.specs.Places.{argumentOf, firstOf}
 
@@ -76,19 +78,17 @@ unfolding kindAt firstOf
 first-told s x nil (none e) = rw (cuts-short (uint 1 x) (cuts-uint 1 x) (omega arith))
 first-told s x (cons v vs) (some k e g) = ap argumentKind (told 7 s x e) ∙ argument-kind s v _
 
--- what `skip` and `count_values` say of the values there
-abbrev pub SkipThere : List ℕ → Parse Value → Next → Type 0
-SkipThere s p next.Malformed = p ≡ bad
-SkipThere s p (next.At e) = (e ≤ length s) × ((v : Value) × (p ≡ got v (drop e s)))
+-- and so it is told by what was taken there
+pub first-taken : (s : List ℕ) (at : ℕ) {k : Taken} → TakenAt s at k → (vs : Values) → Ended topValue (drop at s) vs → argumentKind (k .kind) ≡ firstOf vs
+unfolding firstOf
+first-taken s at (taken.none e) nil (none l) = refl
+first-taken s at (taken.none e) (cons v vs) (some k g h) = clash (cc)
+first-taken s at (taken.one w r e i l) nil (none z) = let b = cuts-short (topValue (drop at s)) (cuts-value 8 (drop at s)) (omega arith) in clash (cc)
+first-taken s at (taken.one w r e i l) (cons v vs) (some {r = x} k g h) =
+    let p : w ≡ v = cc in
+    argument-kind s w r ∙ ap argumentOf p
 
-pub skip-there : (s : List ℕ) (at : ℕ) (o : Next) → o ≡ endOf s (topValue (drop at s)) → SkipThere s (topValue (drop at s)) o
-unfolding endOf
-skip-there s at o e = rw e (go (topValue (drop at s)) refl)
-  where
-    go : (p : Parse Value) → topValue (drop at s) ≡ p → SkipThere s p (endOf s p)
-    go bad e = refl
-    go (got v r) e = (omega arith, (v, ap (got v) (past-place s at (cuts-value 8 (drop at s) .cut e))))
-
+-- what `count_values` says of the values there
 pub record AllRead (x : List ℕ) : Type 0 where
   pub all : Values
   pub read : allValues x ≡ got all []
@@ -105,3 +105,18 @@ all-there x o e = rw e (go (allValues x) refl)
     go : (p : Parse Values) → allValues x ≡ p → AllThere x (countOf p)
     go bad e = e
     go (got vs r) e = let h = at-end topValue (length x) x e in record { all = vs; read = e ∙ ap (got vs) (h .left); ended = h .ended }
+
+-- the same from before the value that was taken
+module _ (x : List ℕ) {v : Value} {r : List ℕ} (e : topValue x ≡ got v r) where
+  before-is : allValues x ≡ and-then (allValues r) (λ vs y. got (cons v vs) y)
+  before-is =
+      let l = past-length (cuts-value 8 x .cut e) in
+      all-is topValue (cuts-value 8) x ∙ rw (ne-eqb (length x) 0 (λ z. omega (arith, l)), e)
+
+  all-after : (o : Counted) → AllThere r o → AllThere x o
+  all-after counted.Malformed a = before-is ∙ rw a
+  all-after (counted.Is n) a = record { all = cons v (a .all); read = before-is ∙ rw (a .read); ended = some (length r) e (a .read) }
+
+pub all-before : (s : List ℕ) (at : ℕ) {k : Taken} → TakenAt s at k → (o : Counted) → AllThere (drop (k .next) s) o → AllThere (drop at s) o
+all-before s at (taken.none e) o a = a
+all-before s at (taken.one v r e i l) o a = all-after (drop at s) e o (rw i a)

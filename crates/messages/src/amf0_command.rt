@@ -7,7 +7,6 @@ use crate::rtmp_message::Command;
 use crate::rtmp_message::CommandName;
 use crate::rtmp_message::RtmpMessage;
 use amf0::Counted;
-use amf0::Next;
 use amf0::TextAt;
 ghost use mathlib.Core.Path.{_≡_};
 ghost use lib.ListN.{drop};
@@ -35,22 +34,29 @@ fn command_name(body: &[u8], start: usize, len: usize) -> CommandName
 pub fn amf0_command(body: &[u8], at: usize) -> RtmpMessage
     ensures { λ r. ⌜ r ≡ placed (now (body .entry)) (whole command (commandOf (drop at (now (body .entry))))) ⌝ }
 {
-    let TextAt::At { start, len } = text_of(amf0::kind_at(body, at)) else {
+    let head = reader::read_head(body, at);
+    let first = head.first;
+    let name_kind = first.kind;
+    let TextAt::At { start, len } = text_of(name_kind) else {
         return RtmpMessage::Malformed;
     };
-    let after_name = start + len;
-    let OptionU64::Some(number) = number_of(amf0::kind_at(body, after_name)) else {
+    let second = head.second;
+    let number_kind = second.kind;
+    let OptionU64::Some(number) = number_of(number_kind) else {
         return RtmpMessage::Malformed;
     };
-    let object = after_name + 9;
-    let Next::At(args) = amf0::skip(body, object) else {
+    let third = head.third;
+    let object = second.next;
+    let args = third.next;
+    // the reader stays where it finds no value
+    if args == object {
         return RtmpMessage::Malformed;
-    };
+    }
     let Counted::Is(_) = amf0::count_values(body, args) else {
         return RtmpMessage::Malformed;
     };
     let name = command_name(body, start, len);
-    let first = argument_of(amf0::kind_at(body, args));
+    let argument = argument_of(amf0::kind_at(body, args));
     RtmpMessage::Amf0Command(Command {
         name: name,
         start: start,
@@ -58,6 +64,6 @@ pub fn amf0_command(body: &[u8], at: usize) -> RtmpMessage
         number: number,
         object: object,
         args: args,
-        first: first,
+        first: argument,
     })
 }

@@ -25,16 +25,23 @@ fn if_object(place: usize, value: Argument) -> DataMessage
 pub fn amf0_data(body: &[u8]) -> RtmpMessage
     ensures { λ r. ⌜ r ≡ placed (now (body .entry)) (whole values (dataOf (now (body .entry)))) ⌝ }
 {
-    let Counted::Is(_) = amf0::count_values(body, 0) else {
+    let head = reader::read_head(body, 0);
+    let first = head.first;
+    let second = head.second;
+    let third = head.third;
+    let rest = third.next;
+    let Counted::Is(_) = amf0::count_values(body, rest) else {
         return RtmpMessage::Malformed;
     };
-    let TextAt::At { start, len } = text_of(amf0::kind_at(body, 0)) else {
+    let first_kind = first.kind;
+    let TextAt::At { start, len } = text_of(first_kind) else {
         return RtmpMessage::Amf0Data(DataMessage::Other);
     };
     if octets::part_is(body, start, len, b"onMetaData") {
-        let second = start + len;
-        let value = argument_of(amf0::kind_at(body, second));
-        return RtmpMessage::Amf0Data(if_object(second, value));
+        let second_kind = second.kind;
+        let value = argument_of(second_kind);
+        let place = first.next;
+        return RtmpMessage::Amf0Data(if_object(place, value));
     }
     RtmpMessage::Amf0Data(DataMessage::Other)
 }
