@@ -1,4 +1,4 @@
--- What `skip` and `kind_at` answer of the value at a place is what is taken there; and what that tells of the values that are read.
+-- What `after` and `kind_at` answer of the value at a place is what is taken there; and what that tells of the values that are read.
 -- Assumes nothing.
 use Prim.Native.Nat.{ℕ, _<_}
 use native.Mathlib.Omega.{arith}

@@ -3,6 +3,9 @@
 use amf0::Kind;
 use amf0::Next;
 ghost use mathlib.Core.Path.{_≡_};
+ghost use lib.ListN.{drop};
+ghost use Rattle.amf0.specs.Decode.{topValue};
+ghost use Rattle.amf0.specs.Places.{kindAt, endOf};
 ghost use Rattle.reader.specs.Read.{taken, headOf};
 
 pub struct Reader<'a> {
@@ -23,17 +26,34 @@ pub struct Head {
     pub third: Taken,
 }
 
+// The place after the value at `at`, which is of that kind: a text isn't read again to pass it over.
+fn after(s: &[u8], at: usize, kind: Kind) -> Next
+    requires { ⌜ kind ≡ kindAt (now s) (drop at (now s)) ⌝ }
+    ensures { λ r. ⌜ r ≡ endOf (now (s .entry)) (topValue (drop at (now (s .entry)))) ⌝ }
+{
+    match kind {
+        Kind::Number(_) => Next::At(at + 9),
+        Kind::Boolean(_) => Next::At(at + 2),
+        Kind::Text { start, len } => Next::At(start + len),
+        Kind::Object => amf0::skip(s, at),
+        Kind::Null => Next::At(at + 1),
+        Kind::Undefined => Next::At(at + 1),
+        Kind::Array => amf0::skip(s, at),
+        Kind::Malformed => Next::Malformed,
+    }
+}
+
 // The value at `at`.
 pub fn value_at(s: &[u8], at: usize) -> Taken
     ensures { λ r. ⌜ r ≡ taken (now (s .entry)) at ⌝ }
 {
-    let Next::At(next) = amf0::skip(s, at) else {
+    let kind = amf0::kind_at(s, at);
+    let Next::At(next) = after(s, at, kind) else {
         return Taken {
             kind: Kind::Malformed,
             next: at,
         };
     };
-    let kind = amf0::kind_at(s, at);
     Taken {
         kind: kind,
         next: next,
