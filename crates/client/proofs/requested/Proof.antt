@@ -1,0 +1,33 @@
+-- `client::requested` meets its contract: each kind's call.
+-- Assumes nothing.
+use borrow.Author.Needs.{needs}
+use Rattle.client.proofs.RequestLaws.{connect-does, play-does, publish-does}
+use Rattle.client.proofs.requested.Statement.{statement}
+use Rattle.client.proofs.requested.Tie as tie
+
+returns : tie.Need-returns
+returns c = search (connect-does)
+
+returns-2 : tie.Need-returns-2
+returns-2 c = search (play-does)
+
+returns-3 : tie.Need-returns-3
+returns-3 c = search (publish-does)
+
+pub requested-spec : {M : Type 1} → statement M
+requested-spec =
+    tie.close
+    (tie.spec
+    (λ c. search needs)
+    (λ c κs. search needs)
+    (λ c. search needs)
+    (λ c. search needs)
+    (λ c κs. search needs)
+    (λ c. search needs)
+    (λ c κs. search needs)
+    (λ c. search needs)
+    returns
+    (λ c. search needs)
+    returns-2
+    (λ c. search needs)
+    returns-3)
