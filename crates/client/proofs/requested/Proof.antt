@@ -6,13 +6,13 @@ use Rattle.client.proofs.requested.Statement.{statement}
 use Rattle.client.proofs.requested.Tie as tie
 
 returns : tie.Need-returns
-returns c = search (connect-does)
+returns c = connect-does (c .before .before .before .before .enum-told .given .1) (c .before .before .request-connection .ensures)
 
 returns-2 : tie.Need-returns-2
-returns-2 c = search (play-does)
+returns-2 c = play-does (c .before .before .before .before .before .before .before .kind .given .1) (c .before .before .before .before .enum-told2 .given .1) (c .before .before .request-playback .ensures)
 
 returns-3 : tie.Need-returns-3
-returns-3 c = search (publish-does)
+returns-3 c = publish-does (c .before .before .before .before .before .before .before .before .kind .given .1) (c .before .before .before .before .before .purpose .given .1) (c .before .before .request-publishing .ensures)
 
 pub requested-spec : {M : Type 1} → statement M
 requested-spec =
