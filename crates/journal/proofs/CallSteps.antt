@@ -44,10 +44,10 @@ use Rattle.session.proofs.record.ClientSession.handle_bytes.Kinds as handle-byt
 use Rattle.session.proofs.record.ClientSession.handle_bytes.Reads as handle-bytes
 use Rattle.session.proofs.record.ClientSession.handle_message.Kinds as handle-message-kinds
 use Rattle.session.proofs.record.ClientSession.handle_message.Reads as handle-message
-use Rattle.client.specs.Borrowed.{requestCall}
-use Rattle.client.proofs.request as borrowed-request
-use Rattle.client.proofs.handle_message as borrowed-message
-use Rattle.client.proofs.handle_bytes as borrowed-bytes
+use Rattle.borrowing.specs.Borrowed.{requestCall}
+use Rattle.borrowing.proofs.request as borrowed-request
+use Rattle.borrowing.proofs.handle_message as borrowed-message
+use Rattle.borrowing.proofs.handle_bytes as borrowed-bytes
 use Rattle.journal.specs.Lines.{Journal}
 use Rattle.journal.specs.Trace.{lineOf, Trace, opened, called, requestBorrowed, messageBorrowed, bytesBorrowed}
 

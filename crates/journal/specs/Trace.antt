@@ -17,7 +17,7 @@ use Rattle.session.specs.declared.record.Called.{Called}
 use Rattle.session.specs.declared.record.ClientSession.{ClientSession}
 use Rattle.session.specs.declared.result.Outcome.{Outcome}
 use Rattle.session.specs.declared.result.Outcome.the-variants.{Refused, Nothing, One, Two, Accepted, Pinged}
-use Rattle.client.specs.Borrowed.{requestCall, Stores}
+use Rattle.borrowing.specs.Borrowed.{requestCall, Stores}
 use Rattle.session_laws.specs.Lines.{resultsOf, messagesIn}
 use Rattle.journal.specs.Lines.{Line, Journal}
 

@@ -1,4 +1,4 @@
--- `client::handle_bytes` meets its contract: what the method does is stored (`Stored.antt`).
+-- `borrowing::handle_bytes` meets its contract: what the method does is stored (`Stored.antt`).
 -- Assumes nothing.
 use denote.Struct.Laws as struct
 use Rattle.messages.specs.declared.ids.RtmpTimestamp.{RtmpTimestamp}
@@ -16,19 +16,19 @@ use Rattle.session.proofs.record.ClientSession.handle_bytes as callee
 use Rattle.session.proofs.record.ClientSession.handle_bytes.Symbol as callee-def
 use Rattle.session.proofs.record.ClientSession.handle_bytes.Symbol.{name as #callee}
 use Rattle.session.proofs.record.ClientSession.handle_bytes.Met as callee-thm
-use Rattle.client.proofs.Walk.{ℕ, refl, _≡_, sym, subst, List, [], _∷_, length, URA, fullShare, Fn, named, tyInt, w32, Val, vint, vptr}
-use Rattle.client.proofs.Walk.{SProp, ent, emp, via, fst∗, id⊢, Lft, Share, GName, ftrue, fat, flft, fobs, fbor, Memory, Routine, Heap, Calls, Loops, WpFn, Tables, Atoms, Fun, fact, givenOf, tables, tablesOf, AllOutlive, Body, FmC, fmOf, WpFn-mono}
-use Rattle.client.proofs.Walk.{Given, ‵, raw, some, later, _⊛_, ⋆, _$_, _∵_, !, qed, by, move, keep, drop, use1, use2, split, join, pick, rewrite, fsplit, fsplit3, fjoin, fjoin3, feqL, feqI, suffices, frame, await, done}
-use Rattle.client.proofs.Walk.{look, look-raw, init, store-raw, forget, stop, hop, fld, from, load, addr, of-opd, and-then, no-more, assigns, land, returns, enter, alloc1, alloc0, params1, pass1, pass0, free1, free0, agg, whole, sub, look-in}
-use Rattle.client.proofs.Walk.{owns, mem, Is, uint-makes, uint-lawful, uint-vals, uint-tells, u32, u8, RefT, MutRef, ptr-vals, mut-tells, MutSlice, Room, finally, slice-vals, mut-slice-tells, opens, closes, heard, nothing, owned, onEntry, Meets, tripleOf, Contract, Triple, calls-at, ensured, lasts, entered, cited, says, Stays, stay-ref, stay-none, gave-slice, walkOf, goes-ref, goes-none, goes-gave-slice, Walks, ends-at, walked, walk-meets, yes, plain}
-use Rattle.client.proofs.Stored.{borrowing, slice-of, session-typed, outcome-typed, called-typed, time-typed, own-session, own-outcome, own-time, one-val, parted, outcome-at, session-at, outcome-of, session-of}
-use Rattle.client.proofs.handle_bytes as this
-use Rattle.client.proofs.handle_bytes.Key.{name as #this}
-use Rattle.client.proofs.handle_bytes.Statement as stated
-use Rattle.client.proofs.handle_bytes.Code as code
+use Rattle.borrowing.proofs.Walk.{ℕ, refl, _≡_, sym, subst, List, [], _∷_, length, URA, fullShare, Fn, named, tyInt, w32, Val, vint, vptr}
+use Rattle.borrowing.proofs.Walk.{SProp, ent, emp, via, fst∗, id⊢, Lft, Share, GName, ftrue, fat, flft, fobs, fbor, Memory, Routine, Heap, Calls, Loops, WpFn, Tables, Atoms, Fun, fact, givenOf, tables, tablesOf, AllOutlive, Body, FmC, fmOf, WpFn-mono}
+use Rattle.borrowing.proofs.Walk.{Given, ‵, raw, some, later, _⊛_, ⋆, _$_, _∵_, !, qed, by, move, keep, drop, use1, use2, split, join, pick, rewrite, fsplit, fsplit3, fjoin, fjoin3, feqL, feqI, suffices, frame, await, done}
+use Rattle.borrowing.proofs.Walk.{look, look-raw, init, store-raw, forget, stop, hop, fld, from, load, addr, of-opd, and-then, no-more, assigns, land, returns, enter, alloc1, alloc0, params1, pass1, pass0, free1, free0, agg, whole, sub, look-in}
+use Rattle.borrowing.proofs.Walk.{owns, mem, Is, uint-makes, uint-lawful, uint-vals, uint-tells, u32, u8, RefT, MutRef, ptr-vals, mut-tells, MutSlice, Room, finally, slice-vals, mut-slice-tells, opens, closes, heard, nothing, owned, onEntry, Meets, tripleOf, Contract, Triple, calls-at, ensured, lasts, entered, cited, says, Stays, stay-ref, stay-none, gave-slice, walkOf, goes-ref, goes-none, goes-gave-slice, Walks, ends-at, walked, walk-meets, yes, plain}
+use Rattle.borrowing.proofs.Stored.{borrowing-code, slice-of, session-typed, outcome-typed, called-typed, time-typed, own-session, own-outcome, own-time, one-val, parted, outcome-at, session-at, outcome-of, session-of}
+use Rattle.borrowing.proofs.handle_bytes as this
+use Rattle.borrowing.proofs.handle_bytes.Key.{name as #this}
+use Rattle.borrowing.proofs.handle_bytes.Statement as stated
+use Rattle.borrowing.proofs.handle_bytes.Code as code
 
 abbrev function : Fn
-function = borrowing (timestamp′.mir ∷ tyInt w32 ∷ []) 1 #callee
+function = borrowing-code (timestamp′.mir ∷ tyInt w32 ∷ []) 1 #callee
 
 is-function : code.function ≡ function
 is-function = refl

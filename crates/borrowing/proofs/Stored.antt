@@ -58,8 +58,8 @@ reads i (τ ∷ τs) = read i ∷ reads (suc i) τs
 
 -- A borrowing call's MIR, with the types as their laws have them. τs are those of the parameters between the session and `out`, whose lifetime is the last,
 -- κ. With n parameters the session is copied to n + 1, `out` is lent again by n + 3 and n + 4, and what the callee hands back goes to n + 2.
-abbrev pub borrowing : List Ty → ℕ → Name → Fn
-borrowing τs κ callee =
+abbrev pub borrowing-code : List Ty → ℕ → Name → Fn
+borrowing-code τs κ callee =
     let n = 2 + length τs in
     record {
       lifetimes = suc κ;

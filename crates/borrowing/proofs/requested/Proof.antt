@@ -1,9 +1,9 @@
--- `client::requested` meets its contract: each kind's call.
+-- `borrowing::requested` meets its contract: each kind's call.
 -- Assumes nothing.
 use borrow.Author.Needs.{needs}
-use Rattle.client.proofs.RequestLaws.{connect-does, play-does, publish-does}
-use Rattle.client.proofs.requested.Statement.{statement}
-use Rattle.client.proofs.requested.Tie as tie
+use Rattle.borrowing.proofs.RequestLaws.{connect-does, play-does, publish-does}
+use Rattle.borrowing.proofs.requested.Statement.{statement}
+use Rattle.borrowing.proofs.requested.Tie as tie
 
 returns : tie.Need-returns
 returns c = connect-does (c .before .before .before .before .enum-told .given .1) (c .before .before .request-connection .ensures)

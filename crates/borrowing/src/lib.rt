@@ -9,7 +9,7 @@ use session::ClientSession;
 use session::Outcome;
 ghost use Rattle.session.specs.Calls.{bytes, message};
 ghost use Rattle.session.specs.Contract.{Does};
-ghost use Rattle.client.specs.Borrowed.{requestCall, Stores};
+ghost use Rattle.borrowing.specs.Borrowed.{requestCall, Stores};
 
 // The request of that kind, by value.
 fn requested(

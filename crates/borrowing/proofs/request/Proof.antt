@@ -1,4 +1,4 @@
--- `client::request` meets its contract: what `requested` does is stored (`Stored.antt`).
+-- `borrowing::request` meets its contract: what `requested` does is stored (`Stored.antt`).
 -- Assumes nothing.
 use denote.Struct.Laws as struct
 use denote.Enum.Laws as enum
@@ -15,24 +15,24 @@ use Rattle.session.proofs.record.Called as called
 use Rattle.session.proofs.record.Called.Laws as called′
 use Rattle.session.proofs.record.ClientSession as session
 use Rattle.session.proofs.result.Outcome as outcome
-use Rattle.client.specs.Borrowed.{requestCall}
-use Rattle.client.proofs.Walk.{ℕ, refl, _≡_, sym, subst, List, [], _∷_, length, URA, fullShare, Fn, named, imm, Val, vptr}
-use Rattle.client.proofs.Walk.{SProp, ent, emp, via, fst∗, id⊢, Lft, Share, GName, ftrue, fat, flft, fobs, fbor, Memory, Routine, Heap, Calls, Loops, WpFn, Tables, Atoms, Fun, fact, givenOf, tables, tablesOf, AllOutlive, Body, FmC, fmOf, WpFn-mono}
-use Rattle.client.proofs.Walk.{Given, ‵, raw, some, later, _⊛_, ⋆, _$_, _∵_, !, qed, by, move, keep, drop, use1, use2, split, join, pick, rewrite, fsplit, fsplit3, fjoin, fjoin3, feqL, feqI, suffices, frame, await, done}
-use Rattle.client.proofs.Walk.{look, look-raw, init, store-raw, forget, stop, hop, fld, from, load, addr, of-opd, and-then, no-more, assigns, land, returns, enter, alloc1, alloc0, params1, pass1, pass0, free1, free0, agg, whole, sub, look-in}
-use Rattle.client.proofs.Walk.{owns, mem, Is, u8, RefT, MutRef, ptr-vals, mut-tells, MutSlice, Room, finally, slice-vals, mut-slice-tells, ShrSlice, shr-slice-tells, shr-slice-lawful, shr-slice-copy, opens, closes, heard, nothing, owned, onEntry, Meets, tripleOf, Contract, Triple, calls-at, ensured, lasts, entered, cited, says, Stays, stay-ref, stay-none, gave-slice, walkOf, goes-ref, goes-none, goes-gave-slice, Walks, ends-at, walked, walk-meets, stay-none-slice, goes-none-slice, yes, plain}
-use Rattle.client.proofs.Stored.{borrowing, slice, slice-of, session-typed, outcome-typed, called-typed, time-typed, own-session, own-outcome, own-time, one-val, parted, outcome-at, session-at, outcome-of, session-of}
-use Rattle.client.proofs.requested as callee
-use Rattle.client.proofs.requested.Symbol as callee-def
-use Rattle.client.proofs.requested.Symbol.{name as #callee}
-use Rattle.client.proofs.requested.Met as callee-thm
-use Rattle.client.proofs.request as this
-use Rattle.client.proofs.request.Key.{name as #this}
-use Rattle.client.proofs.request.Statement as stated
-use Rattle.client.proofs.request.Code as code
+use Rattle.borrowing.specs.Borrowed.{requestCall}
+use Rattle.borrowing.proofs.Walk.{ℕ, refl, _≡_, sym, subst, List, [], _∷_, length, URA, fullShare, Fn, named, imm, Val, vptr}
+use Rattle.borrowing.proofs.Walk.{SProp, ent, emp, via, fst∗, id⊢, Lft, Share, GName, ftrue, fat, flft, fobs, fbor, Memory, Routine, Heap, Calls, Loops, WpFn, Tables, Atoms, Fun, fact, givenOf, tables, tablesOf, AllOutlive, Body, FmC, fmOf, WpFn-mono}
+use Rattle.borrowing.proofs.Walk.{Given, ‵, raw, some, later, _⊛_, ⋆, _$_, _∵_, !, qed, by, move, keep, drop, use1, use2, split, join, pick, rewrite, fsplit, fsplit3, fjoin, fjoin3, feqL, feqI, suffices, frame, await, done}
+use Rattle.borrowing.proofs.Walk.{look, look-raw, init, store-raw, forget, stop, hop, fld, from, load, addr, of-opd, and-then, no-more, assigns, land, returns, enter, alloc1, alloc0, params1, pass1, pass0, free1, free0, agg, whole, sub, look-in}
+use Rattle.borrowing.proofs.Walk.{owns, mem, Is, u8, RefT, MutRef, ptr-vals, mut-tells, MutSlice, Room, finally, slice-vals, mut-slice-tells, ShrSlice, shr-slice-tells, shr-slice-lawful, shr-slice-copy, opens, closes, heard, nothing, owned, onEntry, Meets, tripleOf, Contract, Triple, calls-at, ensured, lasts, entered, cited, says, Stays, stay-ref, stay-none, gave-slice, walkOf, goes-ref, goes-none, goes-gave-slice, Walks, ends-at, walked, walk-meets, stay-none-slice, goes-none-slice, yes, plain}
+use Rattle.borrowing.proofs.Stored.{borrowing-code, slice, slice-of, session-typed, outcome-typed, called-typed, time-typed, own-session, own-outcome, own-time, one-val, parted, outcome-at, session-at, outcome-of, session-of}
+use Rattle.borrowing.proofs.requested as callee
+use Rattle.borrowing.proofs.requested.Symbol as callee-def
+use Rattle.borrowing.proofs.requested.Symbol.{name as #callee}
+use Rattle.borrowing.proofs.requested.Met as callee-thm
+use Rattle.borrowing.proofs.request as this
+use Rattle.borrowing.proofs.request.Key.{name as #this}
+use Rattle.borrowing.proofs.request.Statement as stated
+use Rattle.borrowing.proofs.request.Code as code
 
 abbrev function : Fn
-function = borrowing (timestamp′.mir ∷ transaction′.mir ∷ slice (named 1) imm ∷ []) 2 #callee
+function = borrowing-code (timestamp′.mir ∷ transaction′.mir ∷ slice (named 1) imm ∷ []) 2 #callee
 
 is-function : code.function ≡ function
 is-function = refl
@@ -164,4 +164,4 @@ request-spec 𝓤 H 𝓜 𝓖 𝓡 =
     (tables 𝓤 H 𝓜 𝓡 code.env .C) (tables 𝓤 H 𝓜 𝓡 code.env .Λ) #this code.function (code.unfolded 𝓤 H 𝓜 𝓡)
     (subst (λ f. Meets 𝓤 H (𝓖 .A) this.signature (WpFn 𝓤 H (tables 𝓤 H 𝓜 𝓡 code.env .C) (tables 𝓤 H 𝓜 𝓡 code.env .Λ) f) (this.spec 𝓤 H (𝓖 .A) (𝓜 .mem) (𝓡 .run))) (sym is-function)
     (meets 𝓤 H (𝓖 .A) (givenOf 𝓤 H 𝓜 𝓖) (𝓜 .mem) (𝓡 .run) (tablesOf 𝓤 H 𝓜 (tables 𝓤 H 𝓜 𝓡 code.env))
-    (cited 𝓤 H (Callee 𝓤 H (𝓖 .A) (𝓜 .mem) (𝓡 .run)) 𝓜 𝓡 code.env #callee callee-def.routine code.calls-client·requested (callee-thm.met 𝓤 H 𝓜 𝓖 𝓡))))
+    (cited 𝓤 H (Callee 𝓤 H (𝓖 .A) (𝓜 .mem) (𝓡 .run)) 𝓜 𝓡 code.env #callee callee-def.routine code.calls-borrowing·requested (callee-thm.met 𝓤 H 𝓜 𝓖 𝓡))))

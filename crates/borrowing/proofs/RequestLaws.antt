@@ -13,7 +13,7 @@ use Rattle.session.specs.Calls.{connect, play, publish}
 use Rattle.session.specs.Contract.{Does}
 use Rattle.session.specs.declared.record.Called.{Called}
 use Rattle.session.specs.declared.record.ClientSession.{ClientSession}
-use Rattle.client.specs.Borrowed.{requestCall}
+use Rattle.borrowing.specs.Borrowed.{requestCall}
 
 module _ {s : ClientSession} {clock : RtmpTimestamp} {text old exit : List ℕ} {r : Called} where
   pub connect-does : {k : OutstandingTransaction} → k ≡ ConnectionRequested → Does s clock (connect text) old r exit → Does s clock (requestCall k text) old r exit
