@@ -5,7 +5,6 @@ use mathlib.Core.List.{List}
 use Rattle.messages.specs.declared.ids.RtmpTimestamp.{RtmpTimestamp}
 use Rattle.requests.specs.declared.outstanding_transaction.OutstandingTransaction.{OutstandingTransaction}
 use Rattle.requests.specs.declared.outstanding_transaction.OutstandingTransaction.the-variants.{ConnectionRequested, CreateStream}
-use Rattle.requests.specs.declared.outstanding_transaction.TransactionPurpose.{TransactionPurpose}
 use Rattle.requests.specs.declared.outstanding_transaction.TransactionPurpose.the-variants.{PlayRequest, PublishRequest}
 use Rattle.session.specs.Calls.{Call, connect, play, publish}
 use Rattle.session.specs.Contract.{Does}

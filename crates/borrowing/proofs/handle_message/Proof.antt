@@ -20,8 +20,8 @@ use Rattle.session.proofs.record.ClientSession.handle_message.Symbol as callee-
 use Rattle.session.proofs.record.ClientSession.handle_message.Symbol.{name as #callee}
 use Rattle.session.proofs.record.ClientSession.handle_message.Met as callee-thm
 use Rattle.borrowing.proofs.Walk.{ℕ, refl, _≡_, sym, subst, List, [], _∷_, length, URA, fullShare, Fn, named, imm, tyInt, w8, Val, vint, vptr}
-use Rattle.borrowing.proofs.Walk.{SProp, ent, emp, via, fst∗, id⊢, Lft, Share, GName, ftrue, fat, flft, fobs, fbor, Memory, Routine, Heap, Calls, Loops, WpFn, Tables, Atoms, Fun, fact, givenOf, tables, tablesOf, AllOutlive, Body, FmC, fmOf, WpFn-mono}
-use Rattle.borrowing.proofs.Walk.{Given, ‵, raw, some, later, _⊛_, ⋆, _$_, _∵_, !, qed, by, move, keep, drop, use1, use2, split, join, pick, rewrite, fsplit, fsplit3, fjoin, fjoin3, feqL, feqI, suffices, frame, await, done}
+use Rattle.borrowing.proofs.Walk.{SProp, ent, emp, via, fst∗, id⊢, GName, ftrue, fat, flft, fobs, fbor, Memory, Routine, Heap, Calls, Loops, WpFn, Tables, Atoms, Fun, fact, givenOf, tables, tablesOf, Lfts, Shares, AllOutlive, Body, FmC, fmOf, WpFn-mono}
+use Rattle.borrowing.proofs.Walk.{Given, Item, ‵, raw, some, later, _⊛_, ⋆, _$_, _∵_, !, qed, by, move, keep, drop, use1, use2, split, join, pick, rewrite, fsplit, fsplit3, fjoin, fjoin3, feqL, feqI, suffices, frame, await, done}
 use Rattle.borrowing.proofs.Walk.{look, look-raw, init, store-raw, forget, stop, hop, fld, from, load, addr, of-opd, and-then, no-more, assigns, land, returns, enter, alloc1, alloc0, params1, pass1, pass0, free1, free0, agg, whole, sub, look-in}
 use Rattle.borrowing.proofs.Walk.{owns, mem, Is, uint-makes, uint-lawful, uint-vals, uint-tells, u8, RefT, MutRef, ptr-vals, mut-tells, MutSlice, Room, finally, slice-vals, mut-slice-tells, ShrSlice, shr-slice-tells, shr-slice-lawful, shr-slice-copy, opens, closes, heard, nothing, owned, onEntry, Meets, tripleOf, Contract, Triple, calls-at, ensured, lasts, entered, cited, says, Stays, stay-ref, stay-none, gave-slice, walkOf, goes-ref, goes-none, goes-gave-slice, Walks, ends-at, walked, walk-meets, stay-none-slice, goes-none-slice, yes, plain}
 use Rattle.borrowing.proofs.Stored.{borrowing-code, slice, slice-of, session-typed, outcome-typed, called-typed, time-typed, own-session, own-outcome, own-time, one-val, parted, outcome-at, session-at, outcome-of, session-of}
@@ -44,9 +44,9 @@ abbrev Callee : {M : Type 1} (𝓤 : URA M) (H : Heap 𝓤) (A : Atoms 𝓤) (me
 Callee 𝓤 H A mem run = tripleOf 𝓤 H A callee.signature (callee.spec 𝓤 H A mem run)
 
 module _ {M : Type 1} (𝓤 : URA M) (H : Heap 𝓤) (A : Atoms 𝓤) (W : Given 𝓤 H A) (at-mem : Memory → SProp 𝓤) (run : Routine → Fun 𝓤)
-    (κ0 κ1 κ2 : Lft) (bounds : AllOutlive 3 (this.signature .outlives) (κ0, (κ1, (κ2, tt)))) (q0 q1 q2 : Share) (b o : ℕ) (γ : GName) (h : ClientSession)
+    (κs : Lfts 3) (bounds : AllOutlive 3 (this.signature .outlives) κs) (qs : Shares 3) (b o : ℕ) (γ : GName) (h : ClientSession)
     (clock : RtmpTimestamp) (v-clock : Val) (type-id : ℕ) (v-type-id : Val) (time : RtmpTimestamp) (v-time : Val) (stream : StreamNumber) (v-stream : Val) (body : RefT (List ℕ))
-    (is-clock : Is (timestamp.the-row) clock (v-clock ∷ [])) (is-type-id : Is (u8) type-id (v-type-id ∷ [])) (is-time : Is (timestamp.the-row) time (v-time ∷ [])) (is-stream : Is (number.the-row) stream (v-stream ∷ [])) (is-body : Is (ShrSlice (named 1) κ1 u8) body (slice-of body ∷ []))
+    (is-clock : Is (timestamp.the-row) clock (v-clock ∷ [])) (is-type-id : Is (u8) type-id (v-type-id ∷ [])) (is-time : Is (timestamp.the-row) time (v-time ∷ [])) (is-stream : Is (number.the-row) stream (v-stream ∷ [])) (is-body : Is (ShrSlice (named 1) (κs .1 .0) u8) body (slice-of body ∷ []))
     (out : RefT (List ℕ)) (room : Room u8 (length (out .now))) where
   -- the arguments and their machine values
   abbrev a : RefT ClientSession × (RtmpTimestamp × (ℕ × (RtmpTimestamp × (StreamNumber × (RefT (List ℕ) × (RefT (List ℕ) × Unit {0}))))))
@@ -63,25 +63,31 @@ module _ {M : Type 1} (𝓤 : URA M) (H : Heap 𝓤) (A : Atoms 𝓤) (W : Given
   vals-at v = (v ∷ [], vals .1)
 
   abbrev Post : Val → SProp 𝓤
-  Post = walkOf 𝓤 H A this.ended stayed (this.clauses 𝓤 H A at-mem run) .post (((κ0, (κ1, (κ2, tt))), (q0, (q1, (q2, tt))), bounds, a, vals), tt)
+  Post = walkOf 𝓤 H A this.ended stayed (this.clauses 𝓤 H A at-mem run) .post ((κs, qs, bounds, a, vals), tt)
+
+  abbrev tokens : Item 𝓤
+  tokens = ‵ (flft (κs .1 .0) (qs .1 .0)) ⊛ ‵ (flft (κs .1 .1 .0) (qs .1 .1 .0)) ⊛ ‵ ftrue
 
   -- what the callee's triple binds outside
   abbrev to : Val → Callee 𝓤 H A at-mem run .Ghost
-  to v = (((κ1, (κ2, tt)), (q1, (q2, tt)), tt, passed, vals-at v), tt)
+  to v = (((κs .1), (qs .1), tt, passed, vals-at v), tt)
 
-  asked : (v : Val) → ent 𝓤 (onEntry 𝓤 H A callee.signature (κ1, (κ2, tt)) (q1, (q2, tt)) passed (vals-at v)) (Callee 𝓤 H A at-mem run .pre (to v))
+  asked : (v : Val) → ent 𝓤 (onEntry 𝓤 H A callee.signature (κs .1) (qs .1) passed (vals-at v)) (Callee 𝓤 H A at-mem run .pre (to v))
   asked v =
-      qed W ((‵ (flft κ1 q1) ⊛ ‵ (flft κ2 q2) ⊛ ‵ ftrue) ∷ ‵ (owns (session.the-row ∷ timestamp.the-row ∷ u8 ∷ timestamp.the-row ∷ number.the-row ∷ ShrSlice (named 0) κ1 u8 ∷ MutSlice (named 1) κ2 u8 ∷ []) passed (vals-at v)) ∷ []) ∵
+      qed W (tokens ∷ ‵ (owns (session.the-row ∷ timestamp.the-row ∷ u8 ∷ timestamp.the-row ∷ number.the-row ∷ ShrSlice (named 0) (κs .1 .0) u8 ∷ MutSlice (named 1) (κs .1 .1 .0) u8 ∷ []) passed (vals-at v)) ∷ []) ∵
       join ! $ frame ! $ done !
 
   abbrev Says : Called → List ℕ → Type 0
   Says r zs = Does h clock (message type-id time stream (body .now)) (out .now) r zs
 
+  abbrev at-end : Called → List ℕ → List (Item 𝓤)
+  at-end r zs = ‵ (fobs γ (session.the-row .coded .code (r .session))) ∷ ‵ (fbor (κs .0) (Body (mem session.the-row) b o γ)) ∷ ‵ (flft (κs .0) (qs .0)) ∷ tokens ∷ ‵ (finally u8 (out .name) zs) ∷ ‵ (ShrSlice (named 1) (κs .1 .0) u8 .own body (slice-of body ∷ [])) ∷ []
+
   exits : (r : Called) (w : Val) (zs : List ℕ) → Is outcome.the-row (r .outcome) (w ∷ []) → Says r zs → length zs ≡ length (out .now)
-      → ent 𝓤 (⋆ 𝓤 H A (‵ (fobs γ (session.the-row .coded .code (r .session))) ∷ ‵ (fbor κ0 (Body (mem session.the-row) b o γ)) ∷ ‵ (flft κ0 q0) ∷ (‵ (flft κ1 q1) ⊛ ‵ (flft κ2 q2) ⊛ ‵ ftrue) ∷ ‵ (finally u8 (out .name) zs) ∷ ‵ (ShrSlice (named 1) κ1 u8 .own body (slice-of body ∷ [])) ∷ [])) (Post w)
+      → ent 𝓤 (⋆ 𝓤 H A (at-end r zs)) (Post w)
   exits r w zs is e l =
-      qed W (‵ (fobs γ (session.the-row .coded .code (r .session))) ∷ ‵ (fbor κ0 (Body (mem session.the-row) b o γ)) ∷ ‵ (flft κ0 q0) ∷ (‵ (flft κ1 q1) ⊛ ‵ (flft κ2 q2) ⊛ ‵ ftrue) ∷ ‵ (finally u8 (out .name) zs) ∷ ‵ (ShrSlice (named 1) κ1 u8 .own body (slice-of body ∷ [])) ∷ []) ∵
-      suffices ! _ (ends-at 𝓤 H A this.ended stayed (this.clauses 𝓤 H A at-mem run) W (((κ0, (κ1, (κ2, tt))), (q0, (q1, (q2, tt))), bounds, a, vals), tt) w (r .outcome) (r .session, (tt, (tt, (tt, (tt, (tt, (zs, tt))))))) (tt, (tt, (tt, (tt, (tt, (tt, (l, tt)))))))) $
+      qed W (at-end r zs) ∵
+      suffices ! _ (ends-at 𝓤 H A this.ended stayed (this.clauses 𝓤 H A at-mem run) W ((κs, qs, bounds, a, vals), tt) w (r .outcome) (r .session, (tt, (tt, (tt, (tt, (tt, (zs, tt))))))) (tt, (tt, (tt, (tt, (tt, (tt, (l, tt)))))))) $
       says ! e $ move ! (2 ∷ 3 ∷ []) $ join ! $ frame ! $ nothing ! $ move ! (3 ∷ 0 ∷ []) $ fjoin ! $
       move ! (3 ∷ 0 ∷ []) $ fjoin ! $
       owned ! number.the-row (Is number.the-row) (struct.makes number.the-type number′.the-plain 𝓤 H A) stream (v-stream ∷ []) is-stream $ fjoin ! $
@@ -92,9 +98,10 @@ module _ {M : Type 1} (𝓤 : URA M) (H : Heap 𝓤) (A : Atoms 𝓤) (W : Given
       own-outcome ! (r .outcome) w is $ move ! (1 ∷ 0 ∷ []) $ done !
 
   module _ (C : Calls 𝓤 H) (Λ : Loops 𝓤 H) (fm : FmC 𝓤 H (W .laws) C) (known : Triple 𝓤 (C #callee) (Callee 𝓤 H A at-mem run)) where
-    walk : ent 𝓤 (onEntry 𝓤 H A this.signature (κ0, (κ1, (κ2, tt))) (q0, (q1, (q2, tt))) a vals) (WpFn 𝓤 H C Λ function (vptr b o ∷ v-clock ∷ v-type-id ∷ v-time ∷ v-stream ∷ slice-of body ∷ slice-of out ∷ []) Post)
+    walk : ent 𝓤 (onEntry 𝓤 H A this.signature κs qs a vals)
+        (WpFn 𝓤 H C Λ function (vptr b o ∷ v-clock ∷ v-type-id ∷ v-time ∷ v-stream ∷ slice-of body ∷ slice-of out ∷ []) Post)
     walk =
-        qed W ((‵ (flft κ0 q0) ⊛ ‵ (flft κ1 q1) ⊛ ‵ (flft κ2 q2) ⊛ ‵ ftrue) ∷ ‵ (owns (MutRef (named 0) κ0 session.the-row ∷ timestamp.the-row ∷ u8 ∷ timestamp.the-row ∷ number.the-row ∷ ShrSlice (named 1) κ1 u8 ∷ MutSlice (named 2) κ2 u8 ∷ []) a vals) ∷ []) ∵
+        qed W ((‵ (flft (κs .0) (qs .0)) ⊛ tokens) ∷ ‵ (owns (MutRef (named 0) (κs .0) session.the-row ∷ timestamp.the-row ∷ u8 ∷ timestamp.the-row ∷ number.the-row ∷ ShrSlice (named 1) (κs .1 .0) u8 ∷ MutSlice (named 2) (κs .1 .1 .0) u8 ∷ []) a vals) ∷ []) ∵
         enter ! C Λ function (vptr b o ∷ v-clock ∷ v-type-id ∷ v-time ∷ v-stream ∷ slice-of body ∷ slice-of out ∷ []) _ $
         alloc1 ! (λ l0. alloc1 ! (λ l1. alloc1 ! (λ l2. alloc1 ! (λ l3. alloc1 ! (λ l4. alloc1 ! (λ l5. alloc1 ! (λ l6. alloc1 ! (λ l7. alloc1 ! (λ l8. alloc1 ! (λ l9. alloc1 ! (λ l10. alloc1 ! (λ l11. alloc0 ! $ params1 ! $
         pass1 ! (init ! 20 refl (tt, tt)) $
@@ -102,7 +109,7 @@ module _ {M : Type 1} (𝓤 : URA M) (H : Heap 𝓤) (A : Atoms 𝓤) (W : Given
         pass1 ! (init ! 16 refl (uint-lawful 𝓤 H A W w8 .typed type-id _ is-type-id .0)) $
         pass1 ! (init ! 14 refl (time-typed 𝓤 H A W time v-time is-time)) $
         pass1 ! (init ! 12 refl (struct.lawful number.the-type number′.the-laws 𝓤 H A W .typed stream _ is-stream .0)) $
-        pass1 ! (init ! 10 refl (shr-slice-lawful 𝓤 H A W (named 1) κ1 u8 .typed body _ is-body .0)) $
+        pass1 ! (init ! 10 refl (shr-slice-lawful 𝓤 H A W (named 1) (κs .1 .0) u8 .typed body _ is-body .0)) $
         pass1 ! (init ! 8 refl (tt, (tt, (record { fits = room .0 }, tt)))) $ pass0 ! $
         -- the session's borrow is opened
         move ! (25 ∷ []) $ fsplit ! $ fsplit3 ! $ drop ! $ move ! (27 ∷ []) $ split ! $ move ! (2 ∷ 3 ∷ 0 ∷ []) $
@@ -117,7 +124,7 @@ module _ {M : Type 1} (𝓤 : URA M) (H : Heap 𝓤) (A : Atoms 𝓤) (W : Given
         fsplit ! $ drop ! $
         fsplit ! $ drop ! $
         fsplit ! $ drop ! $
-        fsplit ! $ use1 W (‵ (ShrSlice (named 1) κ1 u8 .own body (slice-of body ∷ [])) ⊛ ‵ (ShrSlice (named 1) κ1 u8 .own body (slice-of body ∷ []))) (shr-slice-copy 𝓤 H A W (named 1) κ1 u8 .twice body (slice-of body ∷ [])) $ split ! $ move ! (2 ∷ []) $
+        fsplit ! $ use1 W (‵ (ShrSlice (named 1) (κs .1 .0) u8 .own body (slice-of body ∷ [])) ⊛ ‵ (ShrSlice (named 1) (κs .1 .0) u8 .own body (slice-of body ∷ []))) (shr-slice-copy 𝓤 H A W (named 1) (κs .1 .0) u8 .twice body (slice-of body ∷ [])) $ split ! $ move ! (2 ∷ []) $
         move ! (1 ∷ 0 ∷ []) $ fjoin ! $
         owned ! number.the-row (Is number.the-row) (struct.makes number.the-type number′.the-plain 𝓤 H A) stream (v-stream ∷ []) is-stream $ fjoin ! $
         own-time ! time v-time is-time $ fjoin ! $
@@ -127,9 +134,9 @@ module _ {M : Type 1} (𝓤 : URA M) (H : Heap 𝓤) (A : Atoms 𝓤) (W : Given
         use2 W (raw (Callee 𝓤 H A at-mem run .pre (to v))) (asked v) $
         calls-at ! fm (Callee 𝓤 H A at-mem run) known (to v)
         (and-then ! (load ! (from ! (stop !)) (look ! 12 refl)) (and-then ! (load ! (from ! (stop !)) (look ! 24 refl)) (and-then ! (load ! (from ! (stop !)) (look ! 22 refl)) (and-then ! (load ! (from ! (stop !)) (look ! 20 refl)) (and-then ! (load ! (from ! (stop !)) (look ! 18 refl)) (and-then ! (load ! (from ! (stop !)) (look ! 16 refl)) (and-then ! (load ! (from ! (stop !)) (look ! 6 refl)) (no-more !)))))))) (λ u.
-        use1 W (later (some (λ (r : Called). ((‵ (flft κ1 q1) ⊛ ‵ (flft κ2 q2) ⊛ ‵ ftrue) ⊛ ‵ (called.the-row .own r (u ∷ []))) ⊛ raw (ensured 𝓤 H A callee.ended (callee.clauses 𝓤 H A at-mem run) (κ1, (κ2, tt)) passed tt r)))) (id⊢ 𝓤 _) $
+        use1 W (later (some (λ (r : Called). (tokens ⊛ ‵ (called.the-row .own r (u ∷ []))) ⊛ raw (ensured 𝓤 H A callee.ended (callee.clauses 𝓤 H A at-mem run) (κs .1) passed tt r)))) (id⊢ 𝓤 _) $
         await ! tt $ pick ! (λ r. split ! $ move ! (1 ∷ []) $
-        use1 W (some (λ (zs : Unit {0} × (Unit {0} × (Unit {0} × (Unit {0} × (Unit {0} × (Unit {0} × (List ℕ × Unit {0}))))))). ‵ (lasts callee.ended (κ1, (κ2, tt)) passed zs) ⊛ raw (fact 𝓤 (Says r (zs .1 .1 .1 .1 .1 .1 .0))))) (id⊢ 𝓤 _) $
+        use1 W (some (λ (zs : Unit {0} × (Unit {0} × (Unit {0} × (Unit {0} × (Unit {0} × (Unit {0} × (List ℕ × Unit {0}))))))). ‵ (lasts callee.ended (κs .1) passed zs) ⊛ raw (fact 𝓤 (Says r (zs .1 .1 .1 .1 .1 .1 .0))))) (id⊢ 𝓤 _) $
         pick ! (λ zs. split ! $ move ! (1 ∷ []) $ heard ! (Says r (zs .1 .1 .1 .1 .1 .1 .0)) (λ e.
         fsplit ! $ drop ! $ fsplit ! $ drop ! $ fsplit ! $ drop ! $ fsplit ! $ drop ! $ fsplit ! $ drop ! $ fsplit ! $ drop ! $ fsplit ! $ fsplit ! $ move ! (1 ∷ []) $ feqL ! (λ l.
         -- [the last list; …; the tokens and the result; the session's cell; …]
@@ -154,7 +161,7 @@ module _ {M : Type 1} (𝓤 : URA M) (H : Heap 𝓤) (A : Atoms 𝓤) (W : Given
       (λ κs. (mut-tells (named 0) (κs .0) session.the-row, (struct.tells timestamp.the-type timestamp′.the-laws, (uint-tells w8, (struct.tells timestamp.the-type timestamp′.the-laws, (struct.tells number.the-type number′.the-laws, (shr-slice-tells (named 1) (κs .1 .0) u8, (mut-slice-tells (named 2) (κs .1 .1 .0) u8, tt))))))))
       (λ κs qs bounds a g are.
       via 𝓤 _ (fst∗ 𝓤 _ (emp 𝓤))
-      (walk 𝓤 H A W mem run (κs .0) (κs .1 .0) (κs .1 .1 .0) bounds (qs .0) (qs .1 .0) (qs .1 .1 .0) (a .0 .ptr .0) (a .0 .ptr .1) (a .0 .name) (a .0 .now) (a .1 .0) (struct.val timestamp.the-type timestamp′.the-laws (a .1 .0)) (a .1 .1 .0) (vint w8 (a .1 .1 .0)) (a .1 .1 .1 .0) (struct.val timestamp.the-type timestamp′.the-laws (a .1 .1 .1 .0)) (a .1 .1 .1 .1 .0) (struct.val number.the-type number′.the-laws (a .1 .1 .1 .1 .0)) (a .1 .1 .1 .1 .1 .0) (are .1 .0) (are .1 .1 .0) (are .1 .1 .1 .0) (are .1 .1 .1 .1 .0) (are .1 .1 .1 .1 .1 .0) (a .1 .1 .1 .1 .1 .1 .0) (are .1 .1 .1 .1 .1 .1 .0 .0 .1) C Λ fm known))
+      (walk 𝓤 H A W mem run κs bounds qs (a .0 .ptr .0) (a .0 .ptr .1) (a .0 .name) (a .0 .now) (a .1 .0) (struct.val timestamp.the-type timestamp′.the-laws (a .1 .0)) (a .1 .1 .0) (vint w8 (a .1 .1 .0)) (a .1 .1 .1 .0) (struct.val timestamp.the-type timestamp′.the-laws (a .1 .1 .1 .0)) (a .1 .1 .1 .1 .0) (struct.val number.the-type number′.the-laws (a .1 .1 .1 .1 .0)) (a .1 .1 .1 .1 .1 .0) (are .1 .0) (are .1 .1 .0) (are .1 .1 .1 .0) (are .1 .1 .1 .1 .0) (are .1 .1 .1 .1 .1 .0) (a .1 .1 .1 .1 .1 .1 .0) (are .1 .1 .1 .1 .1 .1 .0 .0 .1) C Λ fm known))
 
 meets : {M : Type 1} (𝓤 : URA M) (H : Heap 𝓤) (A : Atoms 𝓤) → Given 𝓤 H A → (mem : Memory → SProp 𝓤) (run : Routine → Fun 𝓤) (𝓣 : Tables 𝓤 H)
     → Triple 𝓤 (𝓣 .C #callee) (Callee 𝓤 H A mem run) → Meets 𝓤 H A this.signature (WpFn 𝓤 H (𝓣 .C) (𝓣 .Λ) function) (this.spec 𝓤 H A mem run)
