@@ -8,7 +8,6 @@ use Rattle.session.specs.Calls.{bytes}
 use Rattle.session.specs.Contract.{Does}
 use Rattle.session.specs.declared.record.Called.{Called}
 use Rattle.session.specs.declared.record.ClientSession.{ClientSession}
-use Rattle.session.proofs.record.Called as called
 use Rattle.session.proofs.record.Called.Laws as called′
 use Rattle.session.proofs.record.ClientSession as session
 use Rattle.session.proofs.result.Outcome as outcome
@@ -17,11 +16,11 @@ use Rattle.session.proofs.record.ClientSession.handle_bytes.Symbol as callee-de
 use Rattle.session.proofs.record.ClientSession.handle_bytes.Symbol.{name as #callee}
 use Rattle.session.proofs.record.ClientSession.handle_bytes.Met as callee-thm
 use Rattle.borrowing.proofs.Walk.{ℕ, refl, _≡_, sym, subst, List, [], _∷_, length, URA, fullShare, Fn, named, tyInt, w32, Val, vint, vptr}
-use Rattle.borrowing.proofs.Walk.{SProp, ent, emp, via, fst∗, id⊢, GName, ftrue, fat, flft, fobs, fbor, Memory, Routine, Heap, Calls, Loops, WpFn, Tables, Atoms, Fun, fact, givenOf, tables, tablesOf, Lfts, Shares, AllOutlive, Body, FmC, fmOf, WpFn-mono}
-use Rattle.borrowing.proofs.Walk.{Given, Item, ‵, raw, some, later, _⊛_, ⋆, _$_, _∵_, !, qed, by, move, keep, drop, use1, use2, split, join, pick, rewrite, fsplit, fsplit3, fjoin, fjoin3, feqL, feqI, suffices, frame, await, done}
-use Rattle.borrowing.proofs.Walk.{look, look-raw, init, store-raw, forget, stop, hop, fld, from, load, addr, of-opd, and-then, no-more, assigns, land, returns, enter, alloc1, alloc0, params1, pass1, pass0, free1, free0, agg, whole, sub, look-in}
-use Rattle.borrowing.proofs.Walk.{owns, mem, Is, uint-makes, uint-lawful, uint-vals, uint-tells, u32, u8, RefT, MutRef, ptr-vals, mut-tells, MutSlice, Room, finally, slice-vals, mut-slice-tells, opens, closes, heard, nothing, owned, onEntry, Meets, tripleOf, Contract, Triple, calls-at, ensured, lasts, entered, cited, says, Stays, stay-ref, stay-none, gave-slice, walkOf, goes-ref, goes-none, goes-gave-slice, Walks, ends-at, walked, walk-meets, yes, plain}
-use Rattle.borrowing.proofs.Stored.{borrowing-code, slice-of, session-typed, outcome-typed, called-typed, time-typed, own-session, own-outcome, own-time, one-val, parted, outcome-at, session-at, outcome-of, session-of}
+use Rattle.borrowing.proofs.Walk.{SProp, ent, emp, via, fst∗, id⊢, GName, ftrue, fat, flft, fobs, fbor, Memory, Routine, Heap, Calls, Loops, WpFn, Tables, Atoms, Fun, givenOf, tables, tablesOf, Lfts, Shares, AllOutlive, Body, FmC, fmOf, WpFn-mono}
+use Rattle.borrowing.proofs.Walk.{Given, Item, ‵, raw, _⊛_, ⋆, _$_, _∵_, !, qed, by, move, keep, drop, use1, use2, split, join, rewrite, fsplit, fsplit3, fjoin, fjoin3, feqL, feqI, suffices, frame, done}
+use Rattle.borrowing.proofs.Walk.{look, look-raw, init, store-raw, stop, hop, fld, from, load, addr, of-opd, and-then, no-more, assigns, land, returns, enter, alloc1, alloc0, params1, pass1, pass0, free0, agg, whole, sub, look-in}
+use Rattle.borrowing.proofs.Walk.{owns, mem, Is, uint-makes, uint-lawful, uint-vals, uint-tells, u32, u8, RefT, MutRef, ptr-vals, mut-tells, MutSlice, Room, finally, slice-vals, mut-slice-tells, opens, closes, nothing, owned, onEntry, Meets, tripleOf, Contract, Triple, calls-at, lasts, entered, cited, says, Stays, stay-ref, stay-none, gave-slice, walkOf, goes-ref, goes-none, goes-gave-slice, Walks, ends-at, walked, walk-meets, yes, plain}
+use Rattle.borrowing.proofs.Stored.{borrowing-code, slice-of, session-typed, outcome-typed, called-typed, time-typed, own-session, own-outcome, own-time, one-val, answer, answered, outcome-at, session-at, outcome-of, session-of, gone}
 use Rattle.borrowing.proofs.handle_bytes as this
 use Rattle.borrowing.proofs.handle_bytes.Key.{name as #this}
 use Rattle.borrowing.proofs.handle_bytes.Statement as stated
@@ -115,13 +114,10 @@ module _ {M : Type 1} (𝓤 : URA M) (H : Heap 𝓤) (A : Atoms 𝓤) (W : Given
         use2 W (raw (Callee 𝓤 H A at-mem run .pre (to v))) (asked v) $
         calls-at ! fm (Callee 𝓤 H A at-mem run) known (to v)
         (and-then ! (load ! (from ! (stop !)) (look ! 11 refl)) (and-then ! (load ! (from ! (stop !)) (look ! 17 refl)) (and-then ! (load ! (from ! (stop !)) (look ! 15 refl)) (and-then ! (load ! (from ! (stop !)) (look ! 5 refl)) (no-more !))))) (λ u.
-        use1 W (later (some (λ (r : Called). (tokens ⊛ ‵ (called.the-row .own r (u ∷ []))) ⊛ raw (ensured 𝓤 H A callee.ended (callee.clauses 𝓤 H A at-mem run) (κs .1) passed tt r)))) (id⊢ 𝓤 _) $
-        await ! tt $ pick ! (λ r. split ! $ move ! (1 ∷ []) $
-        use1 W (some (λ (zs : Unit {0} × (Unit {0} × (Unit {0} × (List ℕ × Unit {0})))). ‵ (lasts callee.ended (κs .1) passed zs) ⊛ raw (fact 𝓤 (Says r (zs .1 .1 .1 .0))))) (id⊢ 𝓤 _) $
-        pick ! (λ zs. split ! $ move ! (1 ∷ []) $ heard ! (Says r (zs .1 .1 .1 .0)) (λ e.
-        fsplit ! $ drop ! $ fsplit ! $ drop ! $ fsplit ! $ drop ! $ fsplit ! $ fsplit ! $ move ! (1 ∷ []) $ feqL ! (λ l.
-        -- [the last list; …; the tokens and the result; the session's cell; …]
-        move ! (2 ∷ []) $ split ! $ move ! (1 ∷ []) $ parted ! r u (λ p.
+        use1 W (answer tokens u (lasts callee.ended (κs .1) passed) (λ r zs. Says r (zs .1 .1 .1 .0))) (id⊢ 𝓤 _) $
+        answered ! tt tokens u (lasts callee.ended (κs .1) passed) (λ r zs. Says r (zs .1 .1 .1 .0)) (λ r zs p e.
+        fsplit ! $ drop ! $ fsplit ! $ drop ! $ fsplit ! $ drop ! $ fsplit ! $ fsplit ! $ move ! (1 ∷ []) $ feqL ! (λ l. move ! (2 ∷ []) $
+        -- [the tokens; the last list; …; the session's cell; …]
         land ! (from ! (stop !)) (init ! 11 refl (called-typed 𝓤 H A W r u (p .whole-is))) $
         rewrite ! 11 (λ (w : Val). ‵ (fat fullShare called′.mir l6 0 w)) (p .is-both) refl $
         assigns ! (of-opd ! (load ! (from ! (fld ! session-at (stop !))) (session-of ! 11 refl))) (from ! (hop ! (look ! 21 refl) (stop !))) (store-raw ! 3 refl (session-typed 𝓤 H A W (r .session) (p .session-val) (p .session-is))) $
@@ -129,9 +125,8 @@ module _ {M : Type 1} (𝓤 : URA M) (H : Heap 𝓤) (A : Atoms 𝓤) (W : Given
         move ! (3 ∷ []) $ own-session ! (r .session) (p .session-val) (p .session-is) $ move ! (1 ∷ 0 ∷ 5 ∷ 6 ∷ 7 ∷ []) $
         closes ! tt session.the-row (r .session) (p .session-val ∷ []) b o $
         returns ! (look ! 22 refl) $
-        forget ! 6 refl $ forget ! 8 refl $ forget ! 10 refl $ forget ! 12 refl $ forget ! 14 refl $ forget ! 16 refl $ forget ! 18 refl $ forget ! 20 refl $ forget ! 22 refl $
-        move ! (22 ∷ 23 ∷ []) $ free1 ! $ move ! (20 ∷ 21 ∷ []) $ free1 ! $ move ! (18 ∷ 19 ∷ []) $ free1 ! $ move ! (16 ∷ 17 ∷ []) $ free1 ! $ move ! (14 ∷ 15 ∷ []) $ free1 ! $ move ! (12 ∷ 13 ∷ []) $ free1 ! $ move ! (10 ∷ 11 ∷ []) $ free1 ! $ move ! (8 ∷ 9 ∷ []) $ free1 ! $ move ! (6 ∷ 7 ∷ []) $ free1 ! $ free0 ! $
-        keep ! (0 ∷ 1 ∷ 2 ∷ 3 ∷ 4 ∷ []) $ by ! (exits r (p .out-val) (zs .1 .1 .1 .0) (p .out-is) e l))))))))))))))))))
+        move ! (22 ∷ 23 ∷ []) $ gone ! $ move ! (20 ∷ 21 ∷ []) $ gone ! $ move ! (18 ∷ 19 ∷ []) $ gone ! $ move ! (16 ∷ 17 ∷ []) $ gone ! $ move ! (14 ∷ 15 ∷ []) $ gone ! $ move ! (12 ∷ 13 ∷ []) $ gone ! $ move ! (10 ∷ 11 ∷ []) $ gone ! $ move ! (8 ∷ 9 ∷ []) $ gone ! $ move ! (6 ∷ 7 ∷ []) $ gone ! $ free0 ! $
+        keep ! (0 ∷ 1 ∷ 2 ∷ 3 ∷ 4 ∷ []) $ by ! (exits r (p .out-val) (zs .1 .1 .1 .0) (p .out-is) e l)))))))))))))))
 
 module _ {M : Type 1} (𝓤 : URA M) (H : Heap 𝓤) (A : Atoms 𝓤) (W : Given 𝓤 H A) (mem : Memory → SProp 𝓤) (run : Routine → Fun 𝓤) where
   walks : (C : Calls 𝓤 H) (Λ : Loops 𝓤 H) → FmC 𝓤 H (W .laws) C → Triple 𝓤 (C #callee) (Callee 𝓤 H A mem run)

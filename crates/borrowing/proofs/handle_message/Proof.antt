@@ -11,7 +11,6 @@ use Rattle.session.specs.Calls.{message}
 use Rattle.session.specs.Contract.{Does}
 use Rattle.session.specs.declared.record.Called.{Called}
 use Rattle.session.specs.declared.record.ClientSession.{ClientSession}
-use Rattle.session.proofs.record.Called as called
 use Rattle.session.proofs.record.Called.Laws as called′
 use Rattle.session.proofs.record.ClientSession as session
 use Rattle.session.proofs.result.Outcome as outcome
@@ -20,11 +19,11 @@ use Rattle.session.proofs.record.ClientSession.handle_message.Symbol as callee-
 use Rattle.session.proofs.record.ClientSession.handle_message.Symbol.{name as #callee}
 use Rattle.session.proofs.record.ClientSession.handle_message.Met as callee-thm
 use Rattle.borrowing.proofs.Walk.{ℕ, refl, _≡_, sym, subst, List, [], _∷_, length, URA, fullShare, Fn, named, imm, tyInt, w8, Val, vint, vptr}
-use Rattle.borrowing.proofs.Walk.{SProp, ent, emp, via, fst∗, id⊢, GName, ftrue, fat, flft, fobs, fbor, Memory, Routine, Heap, Calls, Loops, WpFn, Tables, Atoms, Fun, fact, givenOf, tables, tablesOf, Lfts, Shares, AllOutlive, Body, FmC, fmOf, WpFn-mono}
-use Rattle.borrowing.proofs.Walk.{Given, Item, ‵, raw, some, later, _⊛_, ⋆, _$_, _∵_, !, qed, by, move, keep, drop, use1, use2, split, join, pick, rewrite, fsplit, fsplit3, fjoin, fjoin3, feqL, feqI, suffices, frame, await, done}
-use Rattle.borrowing.proofs.Walk.{look, look-raw, init, store-raw, forget, stop, hop, fld, from, load, addr, of-opd, and-then, no-more, assigns, land, returns, enter, alloc1, alloc0, params1, pass1, pass0, free1, free0, agg, whole, sub, look-in}
-use Rattle.borrowing.proofs.Walk.{owns, mem, Is, uint-makes, uint-lawful, uint-vals, uint-tells, u8, RefT, MutRef, ptr-vals, mut-tells, MutSlice, Room, finally, slice-vals, mut-slice-tells, ShrSlice, shr-slice-tells, shr-slice-lawful, shr-slice-copy, opens, closes, heard, nothing, owned, onEntry, Meets, tripleOf, Contract, Triple, calls-at, ensured, lasts, entered, cited, says, Stays, stay-ref, stay-none, gave-slice, walkOf, goes-ref, goes-none, goes-gave-slice, Walks, ends-at, walked, walk-meets, stay-none-slice, goes-none-slice, yes, plain}
-use Rattle.borrowing.proofs.Stored.{borrowing-code, slice, slice-of, session-typed, outcome-typed, called-typed, time-typed, own-session, own-outcome, own-time, one-val, parted, outcome-at, session-at, outcome-of, session-of}
+use Rattle.borrowing.proofs.Walk.{SProp, ent, emp, via, fst∗, id⊢, GName, ftrue, fat, flft, fobs, fbor, Memory, Routine, Heap, Calls, Loops, WpFn, Tables, Atoms, Fun, givenOf, tables, tablesOf, Lfts, Shares, AllOutlive, Body, FmC, fmOf, WpFn-mono}
+use Rattle.borrowing.proofs.Walk.{Given, Item, ‵, raw, _⊛_, ⋆, _$_, _∵_, !, qed, by, move, keep, drop, use1, use2, split, join, rewrite, fsplit, fsplit3, fjoin, fjoin3, feqL, feqI, suffices, frame, done}
+use Rattle.borrowing.proofs.Walk.{look, look-raw, init, store-raw, stop, hop, fld, from, load, addr, of-opd, and-then, no-more, assigns, land, returns, enter, alloc1, alloc0, params1, pass1, pass0, free0, agg, whole, sub, look-in}
+use Rattle.borrowing.proofs.Walk.{owns, mem, Is, uint-makes, uint-lawful, uint-vals, uint-tells, u8, RefT, MutRef, ptr-vals, mut-tells, MutSlice, Room, finally, slice-vals, mut-slice-tells, ShrSlice, shr-slice-tells, shr-slice-lawful, shr-slice-copy, opens, closes, nothing, owned, onEntry, Meets, tripleOf, Contract, Triple, calls-at, lasts, entered, cited, says, Stays, stay-ref, stay-none, gave-slice, walkOf, goes-ref, goes-none, goes-gave-slice, Walks, ends-at, walked, walk-meets, stay-none-slice, goes-none-slice, yes, plain}
+use Rattle.borrowing.proofs.Stored.{borrowing-code, slice, slice-of, session-typed, outcome-typed, called-typed, time-typed, own-session, own-outcome, own-time, one-val, answer, answered, outcome-at, session-at, outcome-of, session-of, gone}
 use Rattle.borrowing.proofs.handle_message as this
 use Rattle.borrowing.proofs.handle_message.Key.{name as #this}
 use Rattle.borrowing.proofs.handle_message.Statement as stated
@@ -134,13 +133,10 @@ module _ {M : Type 1} (𝓤 : URA M) (H : Heap 𝓤) (A : Atoms 𝓤) (W : Given
         use2 W (raw (Callee 𝓤 H A at-mem run .pre (to v))) (asked v) $
         calls-at ! fm (Callee 𝓤 H A at-mem run) known (to v)
         (and-then ! (load ! (from ! (stop !)) (look ! 12 refl)) (and-then ! (load ! (from ! (stop !)) (look ! 24 refl)) (and-then ! (load ! (from ! (stop !)) (look ! 22 refl)) (and-then ! (load ! (from ! (stop !)) (look ! 20 refl)) (and-then ! (load ! (from ! (stop !)) (look ! 18 refl)) (and-then ! (load ! (from ! (stop !)) (look ! 16 refl)) (and-then ! (load ! (from ! (stop !)) (look ! 6 refl)) (no-more !)))))))) (λ u.
-        use1 W (later (some (λ (r : Called). (tokens ⊛ ‵ (called.the-row .own r (u ∷ []))) ⊛ raw (ensured 𝓤 H A callee.ended (callee.clauses 𝓤 H A at-mem run) (κs .1) passed tt r)))) (id⊢ 𝓤 _) $
-        await ! tt $ pick ! (λ r. split ! $ move ! (1 ∷ []) $
-        use1 W (some (λ (zs : Unit {0} × (Unit {0} × (Unit {0} × (Unit {0} × (Unit {0} × (Unit {0} × (List ℕ × Unit {0}))))))). ‵ (lasts callee.ended (κs .1) passed zs) ⊛ raw (fact 𝓤 (Says r (zs .1 .1 .1 .1 .1 .1 .0))))) (id⊢ 𝓤 _) $
-        pick ! (λ zs. split ! $ move ! (1 ∷ []) $ heard ! (Says r (zs .1 .1 .1 .1 .1 .1 .0)) (λ e.
-        fsplit ! $ drop ! $ fsplit ! $ drop ! $ fsplit ! $ drop ! $ fsplit ! $ drop ! $ fsplit ! $ drop ! $ fsplit ! $ drop ! $ fsplit ! $ fsplit ! $ move ! (1 ∷ []) $ feqL ! (λ l.
-        -- [the last list; …; the tokens and the result; the session's cell; …]
-        move ! (2 ∷ []) $ split ! $ move ! (1 ∷ []) $ parted ! r u (λ p.
+        use1 W (answer tokens u (lasts callee.ended (κs .1) passed) (λ r zs. Says r (zs .1 .1 .1 .1 .1 .1 .0))) (id⊢ 𝓤 _) $
+        answered ! tt tokens u (lasts callee.ended (κs .1) passed) (λ r zs. Says r (zs .1 .1 .1 .1 .1 .1 .0)) (λ r zs p e.
+        fsplit ! $ drop ! $ fsplit ! $ drop ! $ fsplit ! $ drop ! $ fsplit ! $ drop ! $ fsplit ! $ drop ! $ fsplit ! $ drop ! $ fsplit ! $ fsplit ! $ move ! (1 ∷ []) $ feqL ! (λ l. move ! (2 ∷ []) $
+        -- [the tokens; the last list; …; the session's cell; …]
         land ! (from ! (stop !)) (init ! 12 refl (called-typed 𝓤 H A W r u (p .whole-is))) $
         rewrite ! 12 (λ (w : Val). ‵ (fat fullShare called′.mir l9 0 w)) (p .is-both) refl $
         assigns ! (of-opd ! (load ! (from ! (fld ! session-at (stop !))) (session-of ! 12 refl))) (from ! (hop ! (look ! 28 refl) (stop !))) (store-raw ! 4 refl (session-typed 𝓤 H A W (r .session) (p .session-val) (p .session-is))) $
@@ -148,9 +144,8 @@ module _ {M : Type 1} (𝓤 : URA M) (H : Heap 𝓤) (A : Atoms 𝓤) (W : Given
         move ! (4 ∷ []) $ own-session ! (r .session) (p .session-val) (p .session-is) $ move ! (1 ∷ 0 ∷ 6 ∷ 7 ∷ 8 ∷ []) $
         closes ! tt session.the-row (r .session) (p .session-val ∷ []) b o $
         returns ! (look ! 29 refl) $
-        forget ! 7 refl $ forget ! 9 refl $ forget ! 11 refl $ forget ! 13 refl $ forget ! 15 refl $ forget ! 17 refl $ forget ! 19 refl $ forget ! 21 refl $ forget ! 23 refl $ forget ! 25 refl $ forget ! 27 refl $ forget ! 29 refl $
-        move ! (29 ∷ 30 ∷ []) $ free1 ! $ move ! (27 ∷ 28 ∷ []) $ free1 ! $ move ! (25 ∷ 26 ∷ []) $ free1 ! $ move ! (23 ∷ 24 ∷ []) $ free1 ! $ move ! (21 ∷ 22 ∷ []) $ free1 ! $ move ! (19 ∷ 20 ∷ []) $ free1 ! $ move ! (17 ∷ 18 ∷ []) $ free1 ! $ move ! (15 ∷ 16 ∷ []) $ free1 ! $ move ! (13 ∷ 14 ∷ []) $ free1 ! $ move ! (11 ∷ 12 ∷ []) $ free1 ! $ move ! (9 ∷ 10 ∷ []) $ free1 ! $ move ! (7 ∷ 8 ∷ []) $ free1 ! $ free0 ! $
-        keep ! (0 ∷ 1 ∷ 2 ∷ 3 ∷ 4 ∷ 6 ∷ []) $ by ! (exits r (p .out-val) (zs .1 .1 .1 .1 .1 .1 .0) (p .out-is) e l)))))))))))))))))))))
+        move ! (29 ∷ 30 ∷ []) $ gone ! $ move ! (27 ∷ 28 ∷ []) $ gone ! $ move ! (25 ∷ 26 ∷ []) $ gone ! $ move ! (23 ∷ 24 ∷ []) $ gone ! $ move ! (21 ∷ 22 ∷ []) $ gone ! $ move ! (19 ∷ 20 ∷ []) $ gone ! $ move ! (17 ∷ 18 ∷ []) $ gone ! $ move ! (15 ∷ 16 ∷ []) $ gone ! $ move ! (13 ∷ 14 ∷ []) $ gone ! $ move ! (11 ∷ 12 ∷ []) $ gone ! $ move ! (9 ∷ 10 ∷ []) $ gone ! $ move ! (7 ∷ 8 ∷ []) $ gone ! $ free0 ! $
+        keep ! (0 ∷ 1 ∷ 2 ∷ 3 ∷ 4 ∷ 6 ∷ []) $ by ! (exits r (p .out-val) (zs .1 .1 .1 .1 .1 .1 .0) (p .out-is) e l))))))))))))))))))
 
 module _ {M : Type 1} (𝓤 : URA M) (H : Heap 𝓤) (A : Atoms 𝓤) (W : Given 𝓤 H A) (mem : Memory → SProp 𝓤) (run : Routine → Fun 𝓤) where
   walks : (C : Calls 𝓤 H) (Λ : Loops 𝓤 H) → FmC 𝓤 H (W .laws) C → Triple 𝓤 (C #callee) (Callee 𝓤 H A mem run)
