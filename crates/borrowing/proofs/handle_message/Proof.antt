@@ -29,16 +29,18 @@ use Rattle.borrowing.proofs.handle_message.Key.{name as #this}
 use Rattle.borrowing.proofs.handle_message.Statement as stated
 use Rattle.borrowing.proofs.handle_message.Code as code
 
+-- its code
 abbrev function : Fn
 function = borrowing-code (timestamp′.mir ∷ tyInt w8 ∷ timestamp′.mir ∷ number′.mir ∷ slice (named 1) imm ∷ []) 2 #callee
 
 is-function : code.function ≡ function
 is-function = refl
 
+-- what it has of each parameter at its end
 abbrev stayed : Stays (this.ended .signature .params) (this.ended .kept)
 stayed = (stay-ref (0 ∷ []) tt (plain (λ _. session.the-row)), (stay-none (λ _. timestamp.the-row) yes, (stay-none (λ _. u8) yes, (stay-none (λ _. timestamp.the-row) yes, (stay-none (λ _. number.the-row) yes, (stay-none-slice (1 ∷ []) tt (plain (λ _. u8)) yes, (gave-slice (2 ∷ []) tt (plain (λ _. u8)), tt)))))))
 
--- the contract that the proof cites
+-- the callee's contract, which is all that the proof knows of it
 abbrev Callee : {M : Type 1} (𝓤 : URA M) (H : Heap 𝓤) (A : Atoms 𝓤) (mem : Memory → SProp 𝓤) (run : Routine → Fun 𝓤) → Contract 𝓤
 Callee 𝓤 H A mem run = tripleOf 𝓤 H A callee.signature (callee.spec 𝓤 H A mem run)
 
@@ -76,9 +78,11 @@ module _ {M : Type 1} (𝓤 : URA M) (H : Heap 𝓤) (A : Atoms 𝓤) (W : Given
       qed W (tokens ∷ ‵ (owns (session.the-row ∷ timestamp.the-row ∷ u8 ∷ timestamp.the-row ∷ number.the-row ∷ ShrSlice (named 0) (κs .1 .0) u8 ∷ MutSlice (named 1) (κs .1 .1 .0) u8 ∷ []) passed (vals-at v)) ∷ []) ∵
       join ! $ frame ! $ done !
 
+  -- what the contract says of it
   abbrev Says : Called → List ℕ → Type 0
   Says r zs = Does h clock (message type-id time stream (body .now)) (out .now) r zs
 
+  -- what the walk ends with
   abbrev at-end : Called → List ℕ → List (Item 𝓤)
   at-end r zs = ‵ (fobs γ (session.the-row .coded .code (r .session))) ∷ ‵ (fbor (κs .0) (Body (mem session.the-row) b o γ)) ∷ ‵ (flft (κs .0) (qs .0)) ∷ tokens ∷ ‵ (finally u8 (out .name) zs) ∷ ‵ (ShrSlice (named 1) (κs .1 .0) u8 .own body (slice-of body ∷ [])) ∷ []
 
