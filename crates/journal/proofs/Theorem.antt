@@ -16,15 +16,17 @@ use Rattle.requests.proofs.BoolLaws.{by-cases}
 use Rattle.requests.proofs.PlaceLaws.{opened as openedPlace, found-in, in-found}
 use Rattle.requests.proofs.TableLaws.{sound as sound-facts}
 use Rattle.session.specs.Calls.{Call}
+use Rattle.session.specs.Contract.{Does}
 use Rattle.session.specs.Record.{textsSound, chunkSound, fresh, openOf}
 use Rattle.session.specs.Step.{step}
 use Rattle.session.specs.declared.config.ClientSessionConfig.{ClientSessionConfig}
+use Rattle.session.specs.declared.record.Called.{Called}
 use Rattle.session.specs.declared.record.ClientSession.{ClientSession}
 use Rattle.session_laws.specs.Sound.{Sound}
 use Rattle.session_laws.proofs.StepLaws.{from-opening, stays-sound}
 use Rattle.journal.specs.Lines.{Line, Journal, Each}
 use Rattle.journal.specs.Rule.{said, openBy, ruleOpen, latest, stageOf, ruleStage, activeOf, ruleActive}
-use Rattle.journal.specs.Trace.{lineOf, Trace, opened, called}
+use Rattle.journal.specs.Trace.{lineOf, Trace, opened, called, requestBorrowed, messageBorrowed, bytesBorrowed}
 use Rattle.journal.specs.Demand.{LineHolds, activeNumber, Holds, Demand3}
 use Rattle.journal.specs.Beside.{givenIn, NumberRises, SoundSession, Numbered, Acknowledged}
 use Rattle.journal.proofs.EachLaws.{each-none, each-more}
@@ -110,6 +112,12 @@ all-more s clock c old j a =
       bytes = bytes-more s clock c old j (a .bytes);
     }
 
+-- a call by its contract
+all-called : {s : ClientSession} {j : Journal} → All s j → (c : Call) (clock : RtmpTimestamp) (old : List ℕ) (r : Called) (exit : List ℕ)
+    → Does s clock c old r exit → All (r .session) (lineOf c (r .outcome) exit ∷ j)
+all-called {s} {j} a c clock old r exit d =
+    subst₂ All (sym (d .handsBack)) (ap (λ l. l ∷ j) (sym (ap₂ (lineOf c) (d .answers) (d .leaves)))) (all-more s clock c old j a)
+
 all : {s : ClientSession} {j : Journal} → Trace s j → All s j
 all (opened c r e o) =
     let h : Sound (openOf c .session) = from-opening c (sym (ap (λ x. x .outcome) e) ∙ o) .sound in
@@ -121,8 +129,10 @@ all (opened c r e o) =
       bytes = bytes-first c;
     } in
     subst (λ x. All x []) (sym (ap (λ x. x .session) e ∙ opening c)) a
-all (called {s} {j} p c clock old r exit d) =
-    subst₂ All (sym (d .handsBack)) (ap (λ l. l ∷ j) (sym (ap₂ (lineOf c) (d .answers) (d .leaves)))) (all-more s clock c old j (all p))
+all (called p c clock old r exit d) = all-called (all p) c clock old r exit d
+all (requestBorrowed p k text clock old o after exit d) = all-called (all p) _ clock old _ exit d
+all (messageBorrowed p k time x body clock old o after exit d) = all-called (all p) _ clock old _ exit d
+all (bytesBorrowed p n clock old o after exit d) = all-called (all p) _ clock old _ exit d
 
 -- ---- the record's places
 

@@ -1,0 +1,2 @@
+-- What the borrowing calls do.
+pub mod Borrowed
