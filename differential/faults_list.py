@@ -252,8 +252,4 @@ ONLY_PROVED = [
     ('a number in two places is a session\'s', 'no line makes a record', 'requests/must-fail/sound_doubled_number.edit'),
     ('the peer\'s chunk size is 4,096 at first', 'no result tells it', 'session/must-fail/new_peer_chunk.edit'),
     ('a ping hands back another time than it sent', 'card tells the message alone', 'session/must-fail/ping_time.edit'),
-    ('a width that came is the height', 'card tells no values of events', 'messages/must-fail/width_from_height.edit'),
-    ('a frame rate that is absent is 0', 'card tells no values of events', 'messages/must-fail/absent_rate_zero.edit'),
-    ('a tie goes to the upper single', 'card tells no values of events', 'numbers/must-fail/narrow_bits_ties_up.edit'),
-    ('a description is read from the body\'s start', 'card tells no values of events', 'messages/must-fail/description_at_start.edit'),
 ]
