@@ -159,8 +159,8 @@ def shown(result):
 
 def open_line(session):
     """Requests by number, each with its kind, of a publish request also its type."""
-    kinds = [(n, kind.decode()) for n, (kind, _) in sorted(session.open.items())]
-    requests = ','.join('%d:%s%s' % (n, 'publish:' if kind.encode() in PUBLISH_KINDS else '', kind) for n, kind in kinds)
+    kinds = [(n, 'publish:' if kind in PUBLISH_KINDS else '', kind.decode()) for n, (kind, _) in sorted(session.open.items())]
+    requests = ','.join('%d:%s%s' % k for k in kinds)
     return '\t'.join(['open', '-' if session.active is None else str(session.active), requests or '-'])
 
 

@@ -160,7 +160,7 @@ class Session:
             self.window = held[0]
             return []
         if what == 'event':
-            return self.event(clock, *held)
+            return self.control(clock, *held)
         if what == 'media':
             return self.media_in(type_id, time, stream, body)
         if what == 'data':
@@ -169,7 +169,7 @@ class Session:
             return self.command(clock, *held)
         return [event(ACKNOWLEDGED, *held)] if what == 'ack' else [('unhandled', type_id)]
 
-    def event(self, clock, kind, n):
+    def control(self, clock, kind, n):
         if kind == 6:
             return [out(4, clock, bodies.word(7, 2) + bodies.word(n, 4))]
         return [event(PING_RESPONSE, n)] if kind == 7 else []

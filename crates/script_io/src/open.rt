@@ -77,7 +77,7 @@ fn next_above(places: [Place; 8], last: u64) -> Slot {
     found
 }
 
-// What stands before a request: nothing before the first, of number `last` 0.
+// A comma before each request but the first, before which `last` is 0.
 fn parted(text: &mut [u8], waiting: Waiting, last: u64) -> Waiting {
     if last == 0 {
         return waiting;

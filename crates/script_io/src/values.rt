@@ -10,9 +10,9 @@ use messages::OptionU32;
 use messages::StreamMetadata;
 use session::ClientSessionEvent;
 
-fn number_field(text: &mut [u8], waiting: Waiting, n: u64) -> Waiting {
+fn number_field(text: &mut [u8], waiting: Waiting, n: u32) -> Waiting {
     let a = put(text, waiting, b"\t");
-    number(text, a, n)
+    number(text, a, n as u64)
 }
 
 fn bytes_field(text: &mut [u8], waiting: Waiting, bytes: &[u8]) -> Waiting {
@@ -37,7 +37,7 @@ fn text_field(text: &mut [u8], waiting: Waiting, place: TextAt, body: &[u8]) -> 
 
 // A picture or a sound: its time, and the whole body.
 fn media(text: &mut [u8], waiting: Waiting, time: u32, body: &[u8]) -> Waiting {
-    let a = number_field(text, waiting, time as u64);
+    let a = number_field(text, waiting, time);
     bytes_field(text, a, body)
 }
 
@@ -162,9 +162,7 @@ pub(crate) fn event(
 ) -> Waiting {
     match raised {
         ClientSessionEvent::ConnectionRequestAccepted => waiting,
-        ClientSessionEvent::ConnectionRequestRejected(place) => {
-            text_field(text, waiting, place, body)
-        }
+        ClientSessionEvent::ConnectionRequestRejected(t) => text_field(text, waiting, t, body),
         ClientSessionEvent::PlaybackRequestAccepted => waiting,
         ClientSessionEvent::PublishRequestAccepted => waiting,
         ClientSessionEvent::StreamMetadataReceived(m) => metadata(text, waiting, m, body),
@@ -188,9 +186,7 @@ pub(crate) fn event(
         ClientSessionEvent::UnhandleableOnStatusCode { start, len } => {
             bytes_field(text, waiting, octets::part(body, start, len))
         }
-        ClientSessionEvent::AcknowledgementReceived(n) => number_field(text, waiting, n as u64),
-        ClientSessionEvent::PingResponseReceived(time) => {
-            number_field(text, waiting, time.0 as u64)
-        }
+        ClientSessionEvent::AcknowledgementReceived(n) => number_field(text, waiting, n),
+        ClientSessionEvent::PingResponseReceived(time) => number_field(text, waiting, time.0),
     }
 }
