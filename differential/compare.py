@@ -1,13 +1,13 @@
 #!/usr/bin/env python3
-"""Runs our program and the reference on generated scripts and compares them line by line.
+"""Runs our program `replay` and the reference on generated scripts and compares them line by line: every result with its values, the stage, the active
+stream and the open requests.
 
-  compare.py [--scripts N] [--seed S] [--ours COMMAND] [--reference COMMAND] [--card] [--cover]
+  compare.py [--scripts N] [--seed S] [--ours COMMAND] [--reference COMMAND] [--cover]
   compare.py --differences     the inputs of differences.py, on which the two differ as docs/DIFFERENCES.md lists
   compare.py --file SCRIPT..   scripts from files
 
 Many scripts run in one process of each program. A disagreement is shrunk to its fewest lines, within document 01's limits,
 and printed; the run then goes on with the next scripts. The status is 1 if there was any.
---card compares with the program `card`, which prints neither the values of events nor the lines `open`; without it COMMAND prints both.
 """
 import argparse
 import collections
@@ -38,16 +38,10 @@ def results(command, lines):
     return found, done.stderr.decode('latin-1')
 
 
-def plain(result, card):
-    """A result of either program in the form that is compared."""
+def plain(result):
+    """A result of either program in the form that is compared: of events 7 and 8 the Rust tells values, and we their bytes."""
     fields = result.split('\t')
-    if fields[1] == 'open':
-        return None if card else result
-    if fields[1] != 'event':
-        return result
-    if card:
-        return '\t'.join(fields[:3])
-    if fields[2] in ('7', '8') and not fields[-1].startswith('['):
+    if fields[1] == 'event' and fields[2] in ('7', '8') and not fields[-1].startswith('['):
         fields[-2] = coding.canonical(coding.values(bytes.fromhex(fields[-2]))[0])
         fields[-1] = coding.canonical(('array', coding.values(bytes.fromhex(fields[-1]))))
     return '\t'.join(fields)
@@ -56,8 +50,8 @@ def plain(result, card):
 class Pair:
     """The two programs."""
 
-    def __init__(self, ours, reference, card):
-        self.ours, self.reference, self.card = ours, reference, card
+    def __init__(self, ours, reference):
+        self.ours, self.reference = ours, reference
 
     def run(self, lines):
         """For each line, ours and the reference's results."""
@@ -66,7 +60,7 @@ class Pair:
             found, said = results(command, lines)
             if said:
                 sys.exit('%s can\'t read a line: %s' % (command, said[:300]))
-            sides.append([[p for p in (plain(r, self.card) for r in found[i + 1]) if p is not None] for i in range(len(lines))])
+            sides.append([list(map(plain, found[i + 1])) for i in range(len(lines))])
         return list(zip(*sides))
 
     def differs(self, lines):
@@ -156,8 +150,8 @@ def show_differences(pair):
                 print('   %s: %s can\'t be given the input' % (name, who))
                 continue
             found = results(command, lines)[0]
-            found = [plain(r, pair.card) for i in sorted(found) for r in found[i] if '\topen\t' not in r]
-            if found != [plain(r, pair.card) for r in wanted]:
+            found = [plain(r) for i in sorted(found) for r in found[i] if '\topen\t' not in r]
+            if found != wanted:
                 bad += 1
                 print('== %s, %s\n   expected %s\n   found    %s' % (name, who, wanted, found))
         if expected[0] == expected[1]:
@@ -173,14 +167,13 @@ def main():
     parser = argparse.ArgumentParser()
     parser.add_argument('--scripts', type=int, default=5000)
     parser.add_argument('--seed', type=int, default=1)
-    parser.add_argument('--ours', default=os.path.join(ROOT, 'target/bin/card'))
+    parser.add_argument('--ours', default=os.path.join(ROOT, 'target/bin/replay'))
     parser.add_argument('--reference', default=os.path.join(ROOT, 'target/differential/reference'))
-    parser.add_argument('--card', action='store_true')
     parser.add_argument('--cover', action='store_true')
     parser.add_argument('--differences', action='store_true')
     parser.add_argument('--file', nargs='*')
     args = parser.parse_args()
-    pair, cover, bad, count = Pair(shlex.split(args.ours), shlex.split(args.reference), args.card), Cover(), 0, 0
+    pair, cover, bad, count = Pair(shlex.split(args.ours), shlex.split(args.reference)), Cover(), 0, 0
     if args.differences:
         sys.exit(1 if show_differences(pair) else 0)
     if args.file is not None:

@@ -235,9 +235,28 @@ CARD = [
      'script_io/src/results.rt:two', 'packet(text, first, line, stage, b, out)', 'packet(text, first, line, stage, a, out)'),
 ]
 
+EVENTS = [
+    ('a width that came is the height', 'messages/src/stream_metadata.rt', 'whole(field(body, at, b"width"))', 'whole(field(body, at, b"height"))'),
+    ('a frame rate that is absent is 0', 'messages/src/stream_metadata.rt', 'Kind::Malformed => OptionF32::None', 'Kind::Malformed => OptionF32::Some(0.0)'),
+    ('a tie goes to the upper single', 'numbers/src/lib.rt:nearest', 'whole + whole % 2', 'whole + 1'),
+    ('stereo that came is turned round', 'messages/src/stream_metadata.rt', 'OptionBool::Some(b)', 'OptionBool::Some(!b)'),
+    ('metadata is read from the body\'s start', 'session/src/incoming.rt', 'messages::read_metadata(body, place)', 'messages::read_metadata(body, 0)'),
+    ('a description is that of the object before it',
+     'session/src/replies.rt', 'amf0::text_at(body, command.args, b"description")', 'amf0::text_at(body, command.object, b"description")'),
+    ('the number of an unknown reply is held',
+     'session/src/replies.rt:handle_success_result', 'number: command.number,', 'number: numbers::number_of(number),'),
+    ('the arguments of an unknown reply start at its object',
+     'session/src/replies.rt:handle_failed_result', 'args: command.args,', 'args: command.object,'),
+    ('another command has no name', 'session/src/incoming.rt', 'len: command.len,', 'len: 0,'),
+    ('a picture that came has the clock', 'session/src/incoming.rt', 'VideoDataReceived(time)', 'VideoDataReceived(clock)'),
+    ('an acknowledgement that came is 0', 'session/src/incoming.rt', 'AcknowledgementReceived(count)', 'AcknowledgementReceived(count / 4294967295)'),
+    ('a ping response has the clock', 'session/src/incoming.rt', 'PingResponseReceived(time)', 'PingResponseReceived(clock)'),
+    ('a code is told by half', 'messages/src/on_status.rt', '        len: len,', '        len: len / 2,'),
+]
+
 GROUPS = [
     ('document 01\'s mistakes near at hand', MISTAKES), ('document 01\'s worthless versions', WORTHLESS), ('calls', CALLS),
-    ('messages that came', INCOMING), ('open requests', REQUESTS), ('bodies read', MESSAGES), ('bodies written', BODIES),
+    ('messages that came', INCOMING), ('what events hold', EVENTS), ('open requests', REQUESTS), ('bodies read', MESSAGES), ('bodies written', BODIES),
     ('values, numbers and bytes', VALUES), ('card', CARD),
 ]
 
@@ -246,14 +265,10 @@ ONLY_PROVED = [
     ('4,294,967,295 is not given', 'so many requests are out of reach', 'requests/must-fail/take_spent_early.edit'),
     ('refusal 10 is told before 11', 'so many requests are out of reach', 'session/must-fail/request_10_before_11.edit'),
     ('refusal 9 is told before 3', 'a Publishing session without an active stream is out of reach', 'session_laws/must-fail/order_9_before_3.edit'),
-    ('refusal 8 is told before 9', 'card takes no body over 1,048,576 bytes', 'session_laws/must-fail/order_8_before_9.edit'),
+    ('refusal 8 is told before 9', 'a line has no body over 1,048,576 bytes', 'session_laws/must-fail/order_8_before_9.edit'),
     ('a next number of 0 is a session\'s', 'no line makes a record', 'requests/must-fail/sound_next_zero.edit'),
     ('a next number past 4,294,967,296 is a session\'s', 'no line makes a record', 'requests/must-fail/sound_next_bound.edit'),
     ('a number in two places is a session\'s', 'no line makes a record', 'requests/must-fail/sound_doubled_number.edit'),
     ('the peer\'s chunk size is 4,096 at first', 'no result tells it', 'session/must-fail/new_peer_chunk.edit'),
-    ('a ping hands back another time than it sent', 'card tells the message alone', 'session/must-fail/ping_time.edit'),
-    ('a width that came is the height', 'card tells no values of events', 'messages/must-fail/width_from_height.edit'),
-    ('a frame rate that is absent is 0', 'card tells no values of events', 'messages/must-fail/absent_rate_zero.edit'),
-    ('a tie goes to the upper single', 'card tells no values of events', 'numbers/must-fail/narrow_bits_ties_up.edit'),
-    ('a description is read from the body\'s start', 'card tells no values of events', 'messages/must-fail/description_at_start.edit'),
+    ('a ping hands back another time than it sent', 'the message alone is told', 'session/must-fail/ping_time.edit'),
 ]

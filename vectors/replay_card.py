@@ -1,4 +1,5 @@
-"""The program `card` of document 01 over the session of replay_model.py, by document 01 and readings 26 and 27.
+"""The program `card` of document 01 over the session of replay_model.py, by document 01 and readings 26 and 27, with what `replay` adds to its lines:
+an event's values behind its place, and after each line that writes anything a line `open` with the active stream and the open requests, or `-`.
 
 After every line the session is compared with the latest-line rule, which sees the journal alone, and with the law on the sum of all acknowledgements.
 """
@@ -22,7 +23,7 @@ class Line:
         self.verb, self.fields, self.refused, self.sent = verb, fields, refused, sent
         self.reply = self.code = None
         if verb == 'msg' and fields[0] in (17, 20) and refused in (None, 4, 5):
-            _, name, number, arguments = read(fields[0], fields[3])
+            _, name, number, arguments, *_ = read(fields[0], fields[3])
             first = arguments[0] if arguments else ('absent', None)
             if name in (b'_result', b'_error'):
                 self.reply = name, messages.held(number), messages.held(first[1]) if first[0] == 'number' else None
@@ -156,6 +157,13 @@ def shown(result):
     return '\t'.join(r.hex() if isinstance(r, bytes) else str(r) for r in result)
 
 
+def open_line(session):
+    """Requests by number, each with its kind, of a publish request also its type."""
+    kinds = [(n, 'publish:' if kind in PUBLISH_KINDS else '', kind.decode()) for n, (kind, _) in sorted(session.open.items())]
+    requests = ','.join('%d:%s%s' % k for k in kinds)
+    return '\t'.join(['open', '-' if session.active is None else str(session.active), requests or '-'])
+
+
 class Card:
     def __init__(self):
         self.number, self.space, self.written = 0, SPACE, []
@@ -165,7 +173,7 @@ class Card:
         self.session, self.journal, self.counted, self.acknowledged = session, [], 0, 0
 
     def feed(self, raw):
-        """Takes a line without its newline; what it writes is added, and handed back without the line's number."""
+        """Takes a line without its newline; what it writes is added, and its results handed back without the line's number."""
         self.number += 1
         raw = raw[:-1] if raw.endswith(b'\r') else raw
         if raw == b'':
@@ -175,7 +183,8 @@ class Card:
         except Unreadable:
             return []
         lines = ['%d\t%s' % (self.session.stage, shown(r)) for r in results]
-        self.written += ['%d\t%s' % (self.number, line) for line in lines]
+        after = ['%d\t%s' % (self.session.stage, open_line(self.session))] if lines else []
+        self.written += ['%d\t%s' % (self.number, line) for line in lines + after]
         return lines
 
     def line(self, clock, verb, fields):

@@ -30,6 +30,11 @@ def fits(t):
     return len(t) <= 255
 
 
+def event(place, *values):
+    """An event with its values in the order of events.rs: bytes of the message, whole numbers, and of metadata NAME=VALUE for each field that is there."""
+    return 'event', place, *values
+
+
 def out(type_id, time, body, stream=0, droppable=0, uncompressed=0):
     return 'out', type_id, time, stream, droppable, uncompressed, body
 
@@ -155,44 +160,44 @@ class Session:
             self.window = held[0]
             return []
         if what == 'event':
-            return self.event(clock, *held)
+            return self.control(clock, *held)
         if what == 'media':
-            return self.media_in(type_id, stream)
+            return self.media_in(type_id, time, stream, body)
         if what == 'data':
             return self.data_in(stream, *held)
         if what == 'command':
             return self.command(clock, *held)
-        return [('event', ACKNOWLEDGED)] if what == 'ack' else [('unhandled', type_id)]
+        return [event(ACKNOWLEDGED, *held)] if what == 'ack' else [('unhandled', type_id)]
 
-    def event(self, clock, event, n):
-        if event == 6:
+    def control(self, clock, kind, n):
+        if kind == 6:
             return [out(4, clock, bodies.word(7, 2) + bodies.word(n, 4))]
-        return [('event', PING_RESPONSE)] if event == 7 else []
+        return [event(PING_RESPONSE, n)] if kind == 7 else []
 
-    def media_in(self, type_id, stream):
+    def media_in(self, type_id, time, stream, body):
         if self.stage not in (PLAY_REQUESTED, PLAYING):
             raise Refused(2)
         if stream != self.active:
             return []
-        return [('event', VIDEO if type_id == 9 else AUDIO)]
+        return [event(VIDEO if type_id == 9 else AUDIO, time, body)]
 
     def data_in(self, stream, values):
         if stream != self.active or len(values) < 2 or text_of(values[0]) != b'onMetaData' or values[1][0] != 'object':
             return []
-        return [('event', METADATA)]
+        return [event(METADATA, *metadata_fields(values[1][1]))]
 
-    def command(self, clock, name, number, arguments):
+    def command(self, clock, name, number, arguments, thing, rest):
         first = arguments[0] if arguments else ('absent', None)
         if name == b'onStatus':
             return self.notice(first)
         if name not in (b'_result', b'_error'):
-            return [('event', OTHER_COMMAND)]
+            return [event(OTHER_COMMAND, name, bodies.word(number, 8), thing, rest)]
         n = messages.held(number)
         if n not in self.open:
-            return [('event', UNKNOWN_REPLY)]
+            return [event(UNKNOWN_REPLY, bodies.word(number, 8), thing, rest)]
         kind, text = self.open.pop(n)
         if kind == b'connect':
-            return self.accepted(clock) if name == b'_result' else [('event', REJECTED)]
+            return self.accepted(clock) if name == b'_result' else [event(REJECTED, description(first))]
         if name == b'_error':
             raise Refused(4, n)
         if first[0] != 'number':
@@ -202,7 +207,7 @@ class Session:
     def accepted(self, clock):
         self.stage = CONNECTED
         window, chunk = self.settings[2:4]
-        return [out(5, clock, bodies.word(window, 4)), ('event', ACCEPTED), out(1, 0, bodies.word(chunk, 4), uncompressed=1)]
+        return [out(5, clock, bodies.word(window, 4)), event(ACCEPTED), out(1, 0, bodies.word(chunk, 4), uncompressed=1)]
 
     def grant(self, clock, kind, key, stream):
         self.active = stream
@@ -218,33 +223,56 @@ class Session:
         if code is None:
             raise Refused(6)
         if code not in (PLAY_START, PUBLISH_START):
-            return [('event', OTHER_CODE)]
+            return [event(OTHER_CODE, code)]
         if self.stage != (PLAY_REQUESTED if code == PLAY_START else PUBLISH_REQUESTED):
             raise Refused(2)
         self.stage += 1
-        return [('event', PLAY_ACCEPTED if code == PLAY_START else PUBLISH_ACCEPTED)]
+        return [event(PLAY_ACCEPTED if code == PLAY_START else PUBLISH_ACCEPTED)]
 
 
 def text_of(v):
     return v[1][2] if v[0] == 'text' else None
 
 
+def description(first):
+    """That of a rejected connect: empty where the first argument is no object with a text `description`."""
+    return (text_of(messages.last(first[1], b'description')) if first[0] == 'object' else None) or b''
+
+
+def metadata_fields(properties):
+    """NAME=VALUE for each field that is there, in sending order: whole fields held, the frame rate as the nearest single's pattern."""
+    found = []
+    for name in messages.FIELDS:
+        kind, what = messages.last(properties, name)
+        value = None
+        if name == b'stereo':
+            value = '%d' % what if kind == 'boolean' else None
+        elif name == b'encoder':
+            value = what[2].hex() if kind == 'text' else None
+        elif kind == 'number':
+            value = '%08x' % messages.single(what) if name == b'framerate' else '%d' % messages.held(what)
+        if value is not None:
+            found.append('%s=%s' % (name.decode(), value))
+    return found
+
+
 def read_command(s, at):
+    """Name, the Number's pattern, the arguments; and the bytes of the object and of the arguments."""
     (kind, name), at = messages.value(s, at)
     if kind != 'text':
         raise Bad
     (kind, number), at = messages.value(s, at)
     if kind != 'number':
         raise Bad
-    at = messages.value(s, at)[1]
-    return 'command', name[2], number, messages.values(s, at)
+    thing, at = at, messages.value(s, at)[1]
+    return 'command', name[2], number, messages.values(s, at), s[thing:at], s[at:]
 
 
 def read_event(s):
-    event = int.from_bytes(s[:2], 'big')
-    if event not in (0, 1, 2, 3, 4, 6, 7) or len(s) != (10 if event == 3 else 6):
+    kind = int.from_bytes(s[:2], 'big')
+    if kind not in (0, 1, 2, 3, 4, 6, 7) or len(s) != (10 if kind == 3 else 6):
         raise Bad
-    return 'event', event, int.from_bytes(s[2:6], 'big')
+    return 'event', kind, int.from_bytes(s[2:6], 'big')
 
 
 def read(type_id, s):

@@ -2,8 +2,9 @@
 
 A script is a name and rows in turn, a line and then what it gives: the stage after it and its results. `none`, `event0`, `unhandled6` and
 `refused8` stand as they are. `out20` is a message of type 20 that carries the clock of its line, stream 0 and no flag; what is different stands
-behind it in this order: `@77` another time, `#5` another stream, `d` droppable, `u` uncompressed header, `:0007` the body. A line that
-writes nothing gives the empty text. What the model answers must be the same, or there is no script.
+behind it in this order: `@77` another time, `#5` another stream, `d` droppable, `u` uncompressed header, `:0007` the body. `event5:77:1701` is an
+event with its values; without them they are the model's. `open/5/2:play` at the end of a row is the active stream and the open requests after it. A
+line that writes nothing gives the empty text. What the model answers must be the same, or there is no script.
 
 The clock of a line is 1000 times its number in the script, unless `at` gives one.
 """
@@ -31,7 +32,10 @@ def at(clock, line):
 
 
 def result_line(token, clock, line):
-    """What a token of a row stands for; a body that it leaves open is taken from the line."""
+    """What a token of a row stands for; a body or an event's values that it leaves open are taken from the line."""
+    if token.startswith('event'):
+        place, *values = token[len('event'):].split(':')
+        return '\t'.join(['event', place, *(values or line.split('\t')[3:])])
     m = OUT.match(token)
     if not m:
         word, number = re.match(r'([a-z]+)(\d*)$', token).groups()
@@ -59,6 +63,8 @@ def script(name, *rows, end=b'\n'):
         lines.append(line)
         found = card.feed(line)
         stage, *tokens = gives.split() or ['']
+        if tokens and tokens[-1].startswith('open/'):
+            assert card.written[-1].split('\t')[1:] == [stage, *tokens.pop().split('/')], (name, line, gives, card.written[-1])
         assert len(found) == len(tokens), (name, line, gives, found)
         for f, token in zip(found, tokens):
             assert f == stage + '\t' + result_line(token, clock, f), (name, line, gives, found)

@@ -1,4 +1,4 @@
-// The stored scripts, each from an opening on: `card` on many sessions.
+// The stored scripts, each from an opening on: `card` on many sessions, telling the values of events and what is open after each line.
 
 // A line has at most 2,097,407 bytes and a body 1,048,576, so that such a body's digits fit a line.
 fn main() {
@@ -6,5 +6,5 @@ fn main() {
     let mut body = [0u8; 1048576];
     let mut out = [0u8; 1048576];
     let mut text = [0u8; 65536];
-    script_io::run(&mut buf, &mut body, &mut out, &mut text);
+    script_io::run_telling(&mut buf, &mut body, &mut out, &mut text);
 }

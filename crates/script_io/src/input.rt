@@ -3,6 +3,7 @@ use crate::lines;
 use crate::lines::Running;
 use crate::lines::Standing;
 use crate::results;
+use crate::waiting;
 use libc::STDERR_FILENO;
 use libc::STDIN_FILENO;
 use script::Why;
@@ -135,7 +136,7 @@ fn turn(
 fn settled(st: Standing, text: &[u8]) -> Standing {
     let mut after = st;
     let waiting = st.waiting;
-    let written = results::flush(text, waiting);
+    let written = waiting::flush(text, waiting);
     after.waiting = written;
     if written.failed {
         return stopped(after);

@@ -1,23 +1,26 @@
 // Lines, one after the other: each is counted, run and answered.
+use crate::open;
 use crate::results;
-use crate::results::Waiting;
+use crate::waiting;
+use crate::waiting::Waiting;
+use script::Line;
 use script::Why;
 use script_run::Came;
 use session::ClientSession;
 use session::ClientSessionConfig;
-use session::ClientState;
 use session::Outcome;
 ghost use Prim.Native.Nat.{_≤_};
 ghost use lib.ListN.{length};
 
 // Lines passed; bytes at hand of the line that has begun, and whether it is passed over as too long; whether more input may come; how much of the
-// output is lent; the results that wait.
+// output is lent; whether events are told with their values, and after each line what is open; the text that waits.
 pub struct Standing {
     pub line: u64,
     pub held: usize,
     pub skip: bool,
     pub going: bool,
     pub space: u32,
+    pub telling: bool,
     pub waiting: Waiting,
 }
 
@@ -27,7 +30,7 @@ pub struct Running {
 }
 
 // A default session, and all of the output lent.
-pub(crate) fn start() -> Running {
+pub(crate) fn start(telling: bool) -> Running {
     let called = ClientSession::new(ClientSessionConfig::new());
     let session = called.session;
     let waiting = Waiting {
@@ -40,6 +43,7 @@ pub(crate) fn start() -> Running {
         skip: false,
         going: true,
         space: u32::MAX,
+        telling,
         waiting,
     };
     Running { standing, session }
@@ -60,32 +64,63 @@ fn lends(st: Standing, space: u32) -> Standing {
 fn unread(st: Standing, why: Why, text: &[u8]) -> Standing {
     let mut after = st;
     let waiting = st.waiting;
-    let written = results::flush(text, waiting);
+    let written = waiting::flush(text, waiting);
     after.waiting = written;
     results::complain(st.line, why);
     after
 }
 
-fn shown(
+// How many bytes the message of a line has; 0 of a line that brings none.
+fn message_length(s: &[u8]) -> usize {
+    let line = script::read_line(s);
+    match line {
+        Line::Msg(_, _, _, _, at) => at.len / 2,
+        _ => 0,
+    }
+}
+
+// The results of the line s, whose message stands at the start of body.
+fn told(
     st: Standing,
-    stage: ClientState,
+    s: &[u8],
+    session: ClientSession,
     outcome: Outcome,
+    body: &[u8],
     out: &[u8],
     text: &mut [u8],
-) -> Standing {
-    let mut after = st;
+) -> Waiting {
     let waiting = st.waiting;
-    let written = results::outcome(text, waiting, st.line, stage, outcome, out);
-    after.waiting = written;
+    let progress = session.progress;
+    let stage = progress.state;
+    if !st.telling {
+        return results::outcome(text, waiting, st.line, stage, outcome, out, false, body);
+    }
+    let message = octets::part(body, 0, message_length(s));
+    let after = results::outcome(text, waiting, st.line, stage, outcome, out, true, message);
+    open::open_line(text, after, st.line, stage, session)
+}
+
+fn shown(st: Standing, waiting: Waiting) -> Standing {
+    let mut after = st;
+    after.waiting = waiting;
     after
 }
 
-fn answered(st: Standing, stage: ClientState, came: Came, out: &[u8], text: &mut [u8]) -> Standing {
+// What the line s came to.
+fn answered(
+    st: Standing,
+    s: &[u8],
+    session: ClientSession,
+    came: Came,
+    body: &[u8],
+    out: &[u8],
+    text: &mut [u8],
+) -> Standing {
     match came {
         Came::Passed => st,
         Came::Unread(why) => unread(st, why, text),
         Came::Space(n) => lends(st, n),
-        Came::Answer(outcome) => shown(st, stage, outcome, out, text),
+        Came::Answer(outcome) => shown(st, told(st, s, session, outcome, body, out, text)),
     }
 }
 
@@ -114,9 +149,7 @@ fn one_line(
     let ran = script_run::run_line(before, s, body, &mut out[0..n]);
     let came = ran.came;
     let session = ran.session;
-    let progress = session.progress;
-    let stage = progress.state;
-    let standing = answered(st, stage, came, out, text);
+    let standing = answered(st, s, session, came, body, out, text);
     Running { standing, session }
 }
 

@@ -1,6 +1,11 @@
-// Result lines, which wait in a text until it is full or the lines at hand are done; and messages on standard error.
+// Result lines, and messages on standard error.
+use crate::values;
+use crate::waiting::Waiting;
+use crate::waiting::digits;
+use crate::waiting::grown;
+use crate::waiting::put;
+use crate::waiting::room;
 use libc::STDERR_FILENO;
-use libc::STDOUT_FILENO;
 use octets::Wrote;
 use script::Why;
 use session::ClientSessionError;
@@ -9,13 +14,6 @@ use session::ClientSessionResult;
 use session::ClientState;
 use session::Outcome;
 use session::Packet;
-ghost use Prim.Native.Nat.{_≤_, _<_};
-
-// How many bytes of the text wait, and whether a write of results failed.
-pub struct Waiting {
-    pub used: usize,
-    pub failed: bool,
-}
 
 // Says what is wrong with the line of that number.
 pub(crate) fn complain(line: u64, why: Why) {
@@ -27,85 +25,6 @@ pub(crate) fn complain(line: u64, why: Why) {
             io::write_all(STDERR_FILENO, octets::part(&text, 0, n));
         }
     }
-}
-
-// Writes what waits. After a write that failed nothing more is written.
-pub(crate) fn flush(text: &[u8], waiting: Waiting) -> Waiting {
-    let used = waiting.used;
-    if waiting.failed {
-        return emptied(true);
-    }
-    if io::write_all(STDOUT_FILENO, octets::part(text, 0, used)) {
-        return emptied(false);
-    }
-    io::write_all(STDERR_FILENO, b"card: standard output can't be written\n");
-    emptied(true)
-}
-
-fn emptied(failed: bool) -> Waiting {
-    Waiting { used: 0, failed }
-}
-
-// Room for 4,096 bytes, more than any piece below has.
-fn room(text: &[u8], waiting: Waiting) -> Waiting {
-    let used = waiting.used;
-    if text.len() < used {
-        return flush(text, waiting);
-    }
-    if text.len() - used < 4096 {
-        return flush(text, waiting);
-    }
-    waiting
-}
-
-// With what was written after it.
-fn grown(waiting: Waiting, wrote: Wrote) -> Waiting {
-    let mut after = waiting;
-    match wrote {
-        Wrote::NoSpace => waiting,
-        Wrote::Done(k) => {
-            after.used = k;
-            after
-        }
-    }
-}
-
-// The end of the piece that starts at `from`.
-fn piece_end(from: usize, end: usize) -> usize
-    requires { ⌜ from < end ⌝ }
-    ensures { λ r. ⌜ (from < r) × (r ≤ end) ⌝ }
-{
-    if end - from < 1024 {
-        return end;
-    }
-    from + 1024
-}
-
-// At most 1,024 bytes as digits.
-fn piece(text: &mut [u8], waiting: Waiting, bytes: &[u8]) -> Waiting {
-    let ready = room(text, waiting);
-    let used = ready.used;
-    let wrote = script_results::write_hex(text, used, bytes);
-    grown(ready, wrote)
-}
-
-// A whole body as digits, in pieces.
-fn digits(text: &mut [u8], waiting: Waiting, body: &[u8]) -> Waiting {
-    let mut after = waiting;
-    let mut at = 0;
-    while at < body.len() {
-        let from = at;
-        at = piece_end(from, body.len());
-        after = piece(text, after, octets::part(body, from, 1024));
-    }
-    after
-}
-
-fn newline(text: &mut [u8], waiting: Waiting) -> Waiting {
-    let ready = room(text, waiting);
-    let used = ready.used;
-    let wrote = script_results::write_at(text, used, b"\n");
-    grown(ready, wrote)
 }
 
 // A message to send, whose body lies in out.
@@ -124,10 +43,11 @@ fn packet(
     let wrote = script_results::write_packet(text, used, line, stage, sent);
     let head = grown(ready, wrote);
     let whole = digits(text, head, octets::part(out, start, len));
-    newline(text, whole)
+    put(text, whole, b"\n")
 }
 
-fn event(
+// An event up to its values.
+fn event_head(
     text: &mut [u8],
     waiting: Waiting,
     line: u64,
@@ -138,6 +58,24 @@ fn event(
     let used = ready.used;
     let wrote = script_results::write_event(text, used, line, stage, raised);
     grown(ready, wrote)
+}
+
+// An event, with its values where they are told: those that are places lie in `body`.
+fn event(
+    text: &mut [u8],
+    waiting: Waiting,
+    line: u64,
+    stage: ClientState,
+    raised: ClientSessionEvent,
+    telling: bool,
+    body: &[u8],
+) -> Waiting {
+    let head = event_head(text, waiting, line, stage, raised);
+    if telling {
+        let whole = values::event(text, head, raised, body);
+        return put(text, whole, b"\n");
+    }
+    put(text, head, b"\n")
 }
 
 fn unhandled(
@@ -160,10 +98,14 @@ fn result(
     stage: ClientState,
     given: ClientSessionResult,
     out: &[u8],
+    telling: bool,
+    body: &[u8],
 ) -> Waiting {
     match given {
         ClientSessionResult::OutboundResponse(p) => packet(text, waiting, line, stage, p, out),
-        ClientSessionResult::RaisedEvent(e) => event(text, waiting, line, stage, e),
+        ClientSessionResult::RaisedEvent(e) => {
+            event(text, waiting, line, stage, e, telling, body)
+        }
         ClientSessionResult::UnhandleableMessageReceived(t) => {
             unhandled(text, waiting, line, stage, t)
         }
@@ -204,7 +146,7 @@ fn two(
     packet(text, first, line, stage, b, out)
 }
 
-// A connect that was accepted: its event stands between two messages.
+// A connect that was accepted: its event, which has no values, stands between two messages.
 fn accepted(
     text: &mut [u8],
     waiting: Waiting,
@@ -216,11 +158,12 @@ fn accepted(
 ) -> Waiting {
     let first = packet(text, waiting, line, stage, a, out);
     let raised = ClientSessionEvent::ConnectionRequestAccepted;
-    let second = event(text, first, line, stage, raised);
+    let head = event_head(text, first, line, stage, raised);
+    let second = put(text, head, b"\n");
     packet(text, second, line, stage, b, out)
 }
 
-// A line for each result in turn. A ping request's time stands in its message.
+// A line for each result in turn. A ping request's time stands in its message. `body` is that of the message that came.
 pub(crate) fn outcome(
     text: &mut [u8],
     waiting: Waiting,
@@ -228,11 +171,13 @@ pub(crate) fn outcome(
     stage: ClientState,
     answer: Outcome,
     out: &[u8],
+    telling: bool,
+    body: &[u8],
 ) -> Waiting {
     match answer {
         Outcome::Refused(error) => refused(text, waiting, line, stage, error),
         Outcome::Nothing => nothing(text, waiting, line, stage),
-        Outcome::One(a) => result(text, waiting, line, stage, a, out),
+        Outcome::One(a) => result(text, waiting, line, stage, a, out, telling, body),
         Outcome::Two(a, b) => two(text, waiting, line, stage, a, b, out),
         Outcome::Accepted(a, b) => accepted(text, waiting, line, stage, a, b, out),
         Outcome::Pinged(a, _) => packet(text, waiting, line, stage, a, out),

@@ -32,9 +32,6 @@ noneLine line stage = headText line stage ++ ascii "none\n"
 unfoldable pub numberLine : ℕ → ClientState → List ℕ → ℕ → List ℕ
 numberLine line stage word n = (headText line stage ++ word) ++ fieldText n 10
 
-abbrev pub eventLine : ℕ → ClientState → ClientSessionEvent → List ℕ
-eventLine line stage e = numberLine line stage (ascii "event\t") (eventPlace e)
-
 abbrev pub unhandledLine : ℕ → ClientState → ℕ → List ℕ
 unhandledLine line stage kind = numberLine line stage (ascii "unhandled\t") kind
 
@@ -47,6 +44,14 @@ flagDigit b = cond b 49 48
 unfoldable pub flagsText : Packet → List ℕ
 flagsText p = flagDigit (p .droppable) ∷ 9 ∷ flagDigit (p .uncompressed) ∷ 9 ∷ []
 
+-- an event, up to its values
+unfoldable pub eventHead : ℕ → ClientState → ClientSessionEvent → List ℕ
+eventHead line stage e = (headText line stage ++ ascii "event\t") ++ shown (eventPlace e)
+
+-- what is open after a line, up to the active stream
+unfoldable pub openHead : ℕ → ClientState → List ℕ
+openHead line stage = headText line stage ++ ascii "open\t"
+
 -- type, time and stream
 unfoldable pub numbersText : Packet → List ℕ
 numbersText p = (fieldText (p .«type_id») 9 ++ fieldText (p .time .0) 9) ++ fieldText (p .stream .0) 9
@@ -58,7 +63,7 @@ packetHead line stage p = ((headText line stage ++ ascii "out\t") ++ numbersText
 -- a whole line, where the messages' bodies lie in `out`
 unfoldable pub resultLine : ℕ → ClientState → List ℕ → ClientSessionResult → List ℕ
 resultLine line stage out (OutboundResponse p) = (packetHead line stage p ++ hexText (part out (p .start) (p .len))) ++ ascii "\n"
-resultLine line stage out (RaisedEvent e) = eventLine line stage e
+resultLine line stage out (RaisedEvent e) = eventHead line stage e ++ ascii "\n"
 resultLine line stage out (UnhandleableMessageReceived kind) = unhandledLine line stage kind
 
 -- the lines of results, one for each in turn

@@ -11,6 +11,7 @@ pub use output::write_at;
 pub use reasons::write_complaint;
 pub use results::write_event;
 pub use results::write_none;
+pub use results::write_open;
 pub use results::write_packet;
 pub use results::write_refused;
 pub use results::write_unhandled;

@@ -14,7 +14,7 @@ ghost use Prim.Native.Nat.{_+_, _≤_};
 ghost use lib.ListN.{length};
 ghost use Rattle.octets.specs.Output.{Put};
 ghost use Rattle.script_results.specs.Output.{WrittenAt};
-ghost use Rattle.script_results.specs.Results.{fieldText, headText, noneLine, numberLine, eventLine, unhandledLine, refusedLine, flagDigit, flagsText, numbersText, packetHead};
+ghost use Rattle.script_results.specs.Results.{fieldText, headText, noneLine, numberLine, eventHead, openHead, unhandledLine, refusedLine, flagDigit, flagsText, numbersText, packetHead};
 
 // A number and the byte after it.
 fn put_field(out: &mut [u8], at: usize, n: u64, end: u8) -> usize
@@ -65,6 +65,7 @@ fn write_number(
     write_at(out, at, &text[0..c])
 }
 
+// An event, up to its values: these, where they are told, and the line's end come after.
 pub fn write_event(
     out: &mut [u8],
     at: usize,
@@ -72,9 +73,24 @@ pub fn write_event(
     stage: ClientState,
     event: ClientSessionEvent,
 ) -> Wrote
-    ensures { λ r. ⌜ WrittenAt (now (out .entry)) at (eventLine line stage event) (now (out .exit)) r ⌝ }
+    ensures { λ r. ⌜ WrittenAt (now (out .entry)) at (eventHead line stage event) (now (out .exit)) r ⌝ }
 {
-    write_number(out, at, line, stage, b"event\t", event_place(event))
+    let place = event_place(event);
+    let mut text = [0u8; 128];
+    let a = put_head(&mut text, 0, line, stage);
+    let b = octets::put_bytes(&mut text, a, b"event\t");
+    let c = put_decimal(&mut text, b, place as u64);
+    write_at(out, at, &text[0..c])
+}
+
+// What is open after a line, up to the active stream: that, the open requests and the line's end come after.
+pub fn write_open(out: &mut [u8], at: usize, line: u64, stage: ClientState) -> Wrote
+    ensures { λ r. ⌜ WrittenAt (now (out .entry)) at (openHead line stage) (now (out .exit)) r ⌝ }
+{
+    let mut text = [0u8; 128];
+    let a = put_head(&mut text, 0, line, stage);
+    let b = octets::put_bytes(&mut text, a, b"open\t");
+    write_at(out, at, &text[0..b])
 }
 
 pub fn write_unhandled(

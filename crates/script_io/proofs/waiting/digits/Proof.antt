@@ -1,10 +1,10 @@
--- `results::digits` is safe and ends: each piece ends after its start, and no later than the body. Assumes nothing.
+-- `waiting::digits` is safe and ends: each piece ends after its start, and no later than the body. Assumes nothing.
 use mathlib.Core.Path.{_≡_, refl}
 use lib.ListN.{length}
 use Prim.Native.Nat.{_-_}
 use borrow.Author.Needs.{needs}
-use Rattle.script_io.proofs.results.digits.Statement.{statement}
-use Rattle.script_io.proofs.results.digits.Tie as tie
+use Rattle.script_io.proofs.waiting.digits.Statement.{statement}
+use Rattle.script_io.proofs.waiting.digits.Tie as tie
 
 abbrev Inv-loop : tie.InvT-loop
 Inv-loop text₀ body after₀ at₀ text after at = length text ≡ length text₀
