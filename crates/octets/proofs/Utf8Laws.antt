@@ -57,6 +57,26 @@ pub step : (s : List ℕ) (i : ℕ) (row : List Range) → i < length s
     → octets (drop i s) row ≡ octets (getD s i 0 ∷ drop (i + 1) s) row
 step s i row h = rw (add-one, drop-cons s i 0)
 
+-- a byte below 80 is a character
+below : (s : List ℕ) (i j : ℕ) → i < length s → j ≡ i + 1 → getD s i 0 ≤ 0x7f → octets (drop i s) [] ≡ octets (drop j s) []
+unfolding anyRow
+below s i j h e l = rw e (step s i [] h ∙ led 0x00 0x7f _ (omega arith) (omega arith) (drop (i + 1) s) _ refl (or-false _))
+
+-- eight of them
+pub below-8 : (s : List ℕ) (i : ℕ) → i + 8 ≤ length s
+    → getD s i 0 ≤ 0x7f → getD s (i + 1) 0 ≤ 0x7f → getD s (i + 2) 0 ≤ 0x7f → getD s (i + 3) 0 ≤ 0x7f
+    → getD s (i + 4) 0 ≤ 0x7f → getD s (i + 5) 0 ≤ 0x7f → getD s (i + 6) 0 ≤ 0x7f → getD s (i + 7) 0 ≤ 0x7f
+    → octets (drop i s) [] ≡ octets (drop (i + 8) s) []
+below-8 s i h a b c d e f g k =
+    below s i (i + 1) (omega arith) (omega arith) a
+    ∙ below s (i + 1) (i + 2) (omega arith) (omega arith) b
+    ∙ below s (i + 2) (i + 3) (omega arith) (omega arith) c
+    ∙ below s (i + 3) (i + 4) (omega arith) (omega arith) d
+    ∙ below s (i + 4) (i + 5) (omega arith) (omega arith) e
+    ∙ below s (i + 5) (i + 6) (omega arith) (omega arith) f
+    ∙ below s (i + 6) (i + 7) (omega arith) (omega arith) g
+    ∙ below s (i + 7) (i + 8) (omega arith) (omega arith) k
+
 module _ (x : ℕ) (xs : List ℕ) (lo hi : ℕ) where
   pub low : (n : ℕ) → (n ≡ 0 → ⊥) → x < lo → octets (x ∷ xs) (due n lo hi) ≡ false
   unfolding octets

@@ -1,7 +1,9 @@
 // UTF-8, by RFC 3629.
-ghost use Prim.Native.Nat.{ℕ};
+ghost use Prim.Native.Nat.{ℕ, _+_, _≤_};
 ghost use mathlib.Core.List.{List, [], _∷_};
 ghost use mathlib.Core.Path.{_≡_};
+ghost use mathlib.Core.Bool.{true};
+ghost use lib.ListN.{length, drop};
 ghost use Rattle.octets.specs.Utf8.{octets, utf8, due};
 
 // What is still to come of a character: how many bytes, and from where to where the first of them lies. The others lie from 80 to BF.
@@ -44,12 +46,63 @@ fn lead(x: u8) -> Due
     Due(1, 1, 0)
 }
 
-// Whether s is UTF-8: one pass, byte by byte, which ends at the first byte that is not what was to come.
+// Whether the eight bytes at `at` are each below 80, and so characters by themselves.
+fn eight(s: &[u8], at: usize) -> bool
+    requires { ⌜ at + 8 ≤ length (now s) ⌝ }
+    ensures { λ r. ⌜ (r ≡ true → octets (drop at (now (s .entry))) [] ≡ octets (drop (at + 8) (now (s .entry))) []) ⌝ }
+{
+    if 0x7f < s[at] {
+        return false;
+    }
+    if 0x7f < s[at + 1] {
+        return false;
+    }
+    if 0x7f < s[at + 2] {
+        return false;
+    }
+    if 0x7f < s[at + 3] {
+        return false;
+    }
+    if 0x7f < s[at + 4] {
+        return false;
+    }
+    if 0x7f < s[at + 5] {
+        return false;
+    }
+    if 0x7f < s[at + 6] {
+        return false;
+    }
+    if 0x7f < s[at + 7] {
+        return false;
+    }
+    true
+}
+
+// A place up to which all bytes are below 80, which most texts are to their end: eight are looked at in a turn.
+fn ascii(s: &[u8]) -> usize
+    ensures { λ r. ⌜ r ≤ length (now (s .entry)) ⌝ }
+    ensures { λ r. ⌜ utf8 (now (s .entry)) ≡ octets (drop r (now (s .entry))) [] ⌝ }
+{
+    let mut i: usize = 0;
+    while i < s.len() {
+        if s.len() - i < 8 {
+            return i;
+        }
+        if eight(s, i) {
+            i += 8;
+        } else {
+            return i;
+        }
+    }
+    i
+}
+
+// Whether s is UTF-8: one pass, from there on byte by byte, which ends at the first byte that is not what was to come.
 pub fn is_utf8(s: &[u8]) -> bool
     ensures { λ r. ⌜ r ≡ utf8 (now (s .entry)) ⌝ }
 {
     let mut to_come = Due(0, 0, 0);
-    let mut i = 0;
+    let mut i = ascii(s);
     while i < s.len() {
         let x = s[i];
         i += 1;

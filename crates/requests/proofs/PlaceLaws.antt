@@ -13,7 +13,7 @@ use lib.Seq.{getD-set-same, getD-set-other}
 use lib.Dec.{eqb, ltb, leb}
 use Rattle.requests.specs.Texts.{textSound}
 use Rattle.requests.specs.Places.{emptyPlace, isFree, openAs, openCount, firstFree, freePlace, freePlace-is, put}
-use Rattle.requests.specs.Places.{Request, heldBy, lookup, without, hasNumber, placeSound, placesSound}
+use Rattle.requests.specs.Places.{Request, heldBy, lookup, without, hasNumber, placeSound, placesSound, allFree}
 use Rattle.requests.specs.declared.outstanding_transaction.OutstandingTransaction.{OutstandingTransaction}
 use Rattle.requests.specs.declared.text.Text.{Text}
 use Rattle.requests.specs.declared.place.Slot.{Slot}
@@ -264,6 +264,18 @@ module _ (next : ℕ) (p : Place) (ps : List Place) where
   sound-both : placeSound next (p .slot) (p .text) ps ≡ true → placesSound next ps ≡ true → placesSound next (p ∷ ps) ≡ true
   unfolding placesSound
   sound-both e f = rw (e, f)
+
+free-slot : (next : ℕ) (σ : Slot) (t : Text) (ps : List Place) → isFree σ ≡ true → placeSound next σ t ps ≡ true
+free-slot next Free t ps e = free-sound next t ps
+free-slot next (Open n k) t ps e = absurd (false≢true e)
+
+pub free-places : (next : ℕ) (ps : List Place) → allFree ps ≡ true → placesSound next ps ≡ true
+unfolding allFree placesSound
+free-places next [] e = refl
+free-places next (p ∷ ps) e =
+    sound-both next p ps
+    (free-slot next (p .slot) (p .text) ps (and-left (isFree (p .slot)) (allFree ps) e))
+    (free-places next ps (and-right (isFree (p .slot)) (allFree ps) e))
 
 -- what holds of a place still holds where the next number rises and the others have no number that they had not
 slot-kept : (next next′ : ℕ) (σ : Slot) (t : Text) (ps qs : List Place) → next ≤ next′

@@ -82,3 +82,8 @@ placeSound next (Open n k) t others = (ltb 0 (n .0) && ltb (n .0) next) && (not 
 unfoldable pub placesSound : ℕ → List Place → Bool
 placesSound next [] = true
 placesSound next (p ∷ ps) = placeSound next (p .slot) (p .text) ps && placesSound next ps
+
+-- no request is open
+unfoldable pub allFree : List Place → Bool
+allFree [] = true
+allFree (p ∷ ps) = isFree (p .slot) && allFree ps

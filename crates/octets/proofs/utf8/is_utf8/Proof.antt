@@ -2,7 +2,7 @@
 -- Assumes nothing.
 use Prim.Native.Nat.{_+_, _-_, _≤_}
 use mathlib.Core.List.{_∷_}
-use mathlib.Core.Path.{_≡_, refl, sym, _∙_}
+use mathlib.Core.Path.{_≡_, sym, _∙_}
 use native.Mathlib.Omega.{arith}
 use borrow.Author.Needs.{needs}
 use denote.Ref.{now}
@@ -19,12 +19,11 @@ abbrev μ-loop : tie.MeasureT-loop
 μ-loop s d₀ i₀ d i = length s - i
 
 loop-holds : tie.Need-loop-holds Inv-loop μ-loop
-unfolding utf8
-loop-holds c = (search needs, refl)
+loop-holds c = c .ascii .ensures
 
 -- in a turn: the byte at i stands first
 turn : (c : tie.In-loop Inv-loop μ-loop) →
-    let s = now (c .before .before .before .args .s) in let l = c .before .loop in let d = l .to-come in
+    let s = now (c .before .before .before .before .args .s) in let l = c .before .loop in let d = l .to-come in
     utf8 s ≡ octets (getD s (l .i) 0 ∷ drop (l .i + 1) s) (due (d .0) (d .1) (d .2))
 turn c = c .before .loop .inv .1 ∙ laws.step _ _ _ (c .loop-test .taken)
 
@@ -59,6 +58,7 @@ is-utf8-spec =
     (tie.spec
     Inv-loop
     μ-loop
+    (λ c κs. search needs)
     loop-holds
     (λ c. search needs)
     (λ c. search needs)
