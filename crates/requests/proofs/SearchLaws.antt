@@ -2,16 +2,18 @@
 -- Assumes nothing.
 use Prim.Native.Nat.{ℕ, zero, suc, _+_, _<_, _≤_}
 use mathlib.Core.Path.{_≡_, refl, ap, sym, _∙_}
-use mathlib.Core.Bool.{true, false≢true}
+use mathlib.Core.Bool.{Bool, true, false≢true}
 use mathlib.Core.List.{List, [], _∷_, _++_, map, append-nil}
 use mathlib.Core.Option.{Option}
 use native.Mathlib.Numerals.{add-one}
 use native.Mathlib.Omega.{arith}
 use native.Mathlib.Nat.{le-of-lt}
 use lib.ListN.{length, getD, drop, take, set, replicate, drop-of-length-le, length-map, length-replicate}
+use borrow.Author.Tests.{ne-eqb}
+use lib.Dec.{eqb}
 use lib.Seq.{drop-cons, take-suc, append-snoc, set-at, length-take-le, take-suc-set, drop-set-lt, take-append-le}
-use Rattle.requests.specs.Places.{openAs, Request, heldBy}
-use Rattle.requests.specs.Search.{requestIn}
+use Rattle.requests.specs.Places.{openAs, Request, heldBy, hasNumber}
+use Rattle.requests.specs.Search.{requestIn, numberOf, numbersOf, among}
 use Rattle.requests.specs.declared.text.Text.{Text}
 use Rattle.requests.specs.declared.place.Slot.{Slot}
 use Rattle.requests.specs.declared.place.Slot.the-variants.{Free, Open}
@@ -69,3 +71,31 @@ pad-long n m t h =
     let e : n ≡ length (replicate {A = ℕ} n 0) = sym (length-replicate n 0) in
     let l : length (replicate {A = ℕ} n 0) ≤ n = omega arith in
     rw (take-append-le n t (replicate m 0) h, drop-of-length-le (replicate {A = ℕ} n 0) {i = n} l, append-nil)
+
+-- ---- the numbers of the places
+pub length-numbers : (ps : List Place) → length (numbersOf ps) ≡ length ps
+unfolding numbersOf
+length-numbers ps = length-map ps _
+
+pub number-at : (ps : List Place) (i : ℕ) → i < length ps → getD (numbersOf ps) i 0 ≡ numberOf (getD ps i noPlace .slot)
+unfolding numbersOf
+number-at [] i h = absurd (omega arith)
+number-at (p ∷ ps) zero h = refl
+number-at (p ∷ ps) (suc i) h = number-at ps i (omega arith)
+
+open-number : (n : ℕ) → 0 < n → (σ : Slot) → eqb (numberOf σ) n ≡ openAs n σ
+open-number n h Free = ne-eqb 0 n (λ e. omega arith)
+open-number n h (Open m k) = refl
+
+-- a number that is not 0 is among them exactly if a place is open under it
+among-numbers : (n : ℕ) → 0 < n → (from : ℕ) (ps : List Place) → among n (drop from (numbersOf ps)) ≡ hasNumber n (drop from ps)
+unfolding numbersOf among hasNumber
+among-numbers n h zero [] = refl
+among-numbers n h (suc from) [] = refl
+among-numbers n h zero (p ∷ ps) = rw (open-number n h (p .slot), among-numbers n h zero ps)
+among-numbers n h (suc from) (p ∷ ps) = among-numbers n h from ps
+
+-- the same from what the search through them answered
+pub in-numbers : (n : ℕ) → 0 < n → (from : ℕ) (ps : List Place) {ms : List ℕ} {t b : Bool}
+    → ms ≡ numbersOf ps → t ≡ among n (drop from ms) → t ≡ b → hasNumber n (drop from ps) ≡ b
+in-numbers n h from ps e f g = sym (among-numbers n h from ps) ∙ ap (λ l. among n (drop from l)) (sym e) ∙ sym f ∙ g

@@ -4,9 +4,10 @@ use crate::text::Text;
 use messages::TransactionNumber;
 ghost use mathlib.Core.Path.{_≡_};
 ghost use mathlib.Core.Bool.{cond};
+ghost use mathlib.Core.List.{List};
 ghost use lib.ListN.{drop};
-ghost use Rattle.requests.specs.Places.{emptyPlace, isFree, openAs, lookup, without as withoutOf, freePlace, hasNumber, placeSound, placesSound, allFree};
-ghost use Rattle.requests.specs.Search.{requestIn};
+ghost use Rattle.requests.specs.Places.{emptyPlace, isFree, openAs, lookup, without as withoutOf, freePlace, placeSound, placesSound, allFree};
+ghost use Rattle.requests.specs.Search.{requestIn, numberOf, numbersOf, among};
 
 pub enum Slot {
     Free,
@@ -104,14 +105,38 @@ pub fn without(places: [Place; 8], number: u32) -> [Place; 8]
     rest
 }
 
-// Whether a place at `from` or after is open under the number.
-fn has_number(places: [Place; 8], from: usize, number: u32) -> bool
-    ensures { λ r. ⌜ r ≡ hasNumber number (drop from places) ⌝ }
+// The number under which the place is open, and 0 for a free one.
+fn number_of(slot: Slot) -> u32
+    ensures { λ r. ⌜ r ≡ numberOf slot ⌝ }
+{
+    match slot {
+        Slot::Free => 0,
+        Slot::Open(n, _) => n.0,
+    }
+}
+
+// The numbers of all places, so that those with their texts need not be passed on.
+fn numbers(places: [Place; 8]) -> [u32; 8]
+    ensures { λ r. ⌜ r ≡ numbersOf places ⌝ }
+{
+    let mut out = [0; 8];
+    let mut i: usize = 0;
+    while i < 8 {
+        let place = places[i];
+        let slot = place.slot;
+        out[i] = number_of(slot);
+        i += 1;
+    }
+    out
+}
+
+// Whether a number at `from` or after is that one.
+fn has_number(numbers: [u32; 8], from: usize, number: u32) -> bool
+    ensures { λ r. ⌜ r ≡ among number (drop from numbers) ⌝ }
 {
     let mut i = from;
     while i < 8 {
-        let place = places[i];
-        if open_as(place, number) {
+        if numbers[i] == number {
             return true;
         }
         i += 1;
@@ -119,9 +144,9 @@ fn has_number(places: [Place; 8], from: usize, number: u32) -> bool
     false
 }
 
-// Whether a place is such as a session has, the others being those from `from` on.
-fn place_sound(place: Place, places: [Place; 8], from: usize, next: u64) -> bool
-    ensures { λ r. ⌜ r ≡ placeSound next (place .slot) (place .text) (drop from places) ⌝ }
+// Whether a place is such as a session has, the numbers of the others being those from `from` on.
+fn place_sound(place: Place, numbers: [u32; 8], from: usize, next: u64) -> bool
+    ensures { λ r. ⌜ ((ps : List Place) → numbers ≡ numbersOf ps → r ≡ placeSound next (place .slot) (place .text) (drop from ps)) ⌝ }
 {
     let slot = place.slot;
     match slot {
@@ -134,7 +159,7 @@ fn place_sound(place: Place, places: [Place; 8], from: usize, next: u64) -> bool
             if next <= n as u64 {
                 return false;
             }
-            if has_number(places, from, n) {
+            if has_number(numbers, from, n) {
                 return false;
             }
             let text = place.text;
@@ -143,14 +168,15 @@ fn place_sound(place: Place, places: [Place; 8], from: usize, next: u64) -> bool
     }
 }
 
-// Whether the places are such as a session has, each looked at beside those after it.
+// Whether the places are such as a session has, each looked at beside the numbers after it.
 fn each_sound(places: [Place; 8], next: u64) -> bool
     ensures { λ r. ⌜ r ≡ placesSound next places ⌝ }
 {
+    let all = numbers(places);
     let mut i: usize = 0;
     while i < 8 {
         let place = places[i];
-        if place_sound(place, places, i + 1, next) {
+        if place_sound(place, all, i + 1, next) {
             i += 1;
         } else {
             return false;

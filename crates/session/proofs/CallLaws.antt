@@ -1,7 +1,7 @@
 -- From what the code of a ping, of a publish and of a byte count found and wrote to what their plans come to.
 -- Assumes nothing.
 use Prim.Native.Nat.{ℕ, _+_, _%_, _^_, _<_, _≤_}
-use mathlib.Core.Path.{_≡_}
+use mathlib.Core.Path.{_≡_, refl}
 use mathlib.Core.Bool.{Bool, true, false, not}
 use mathlib.Core.List.{List, _++_, append-nil}
 use native.Mathlib.Omega.{arith}
@@ -18,7 +18,7 @@ use Rattle.bodies.specs.Bodies.{controlBody, wordBody}
 use Rattle.requests.specs.Texts.{fits}
 use Rattle.requests.proofs.BoolLaws.{by-cases}
 use Rattle.requests.proofs.TextLaws.{fits-length}
-use Rattle.session.specs.Record.{withLink}
+use Rattle.session.specs.Record.{withCounts}
 use Rattle.session.specs.Calls.{Message, plain, pinged}
 use Rattle.session.specs.Outcomes.{inTurn, sentBy, bodies, outcomeOf}
 use Rattle.session.specs.Plan.{Plan, go, isPublishing, publishedOn, published, pingPlan, counted, countedBy, count}
@@ -31,7 +31,8 @@ use Rattle.session.specs.declared.record.ActiveStream.the-variants as ac
 use Rattle.session.specs.declared.record.Called.{Called}
 use Rattle.session.specs.declared.record.ClientSession.{ClientSession}
 use Rattle.session.specs.declared.record.PeerWindow.the-variants as window
-use Rattle.session.specs.declared.result.Outcome.the-variants.{Pinged}
+use Rattle.session.specs.declared.result.ClientSessionResult.the-variants.{OutboundResponse}
+use Rattle.session.specs.declared.result.Outcome.the-variants.{Pinged, One}
 use Rattle.session.specs.declared.result.Packet.{Packet}
 use Rattle.session.proofs.StepLaws.{comes-to, away, order-hit, order-miss, order-end, quiet-goes, sent-goes, not-said}
 
@@ -124,7 +125,7 @@ module _ {s : ClientSession} (clock : RtmpTimestamp) {old : List ℕ} {r : Calle
 -- ---- a byte count: the sums of the code, and the session with them
 module _ (s : ClientSession) (clock : RtmpTimestamp) (n : ℕ) {after : ClientSession} {pending total : ℕ}
     (sum : total ≡ (s .link .total + n) % 2 ^ 64)
-    (made : after ≡ withLink s (record { chunk = s .link .chunk; window = s .link .window; pending = pending; total = total })) where
+    (made : after ≡ withCounts s pending total) where
   counted-is : after ≡ counted s clock n pending
   counted-is = rw (made, sum)
 
@@ -143,7 +144,7 @@ module _ (s : ClientSession) (clock : RtmpTimestamp) (n : ℕ) {after : ClientSe
     count-below size w l p q =
         by-case (countedBy s clock n) w (rw (lt-leb size (s .link .pending + n) l) (quiet-goes (rw (counted-is, p) at q)))
 
-    pub count-reached : (size word : ℕ) {wrote : Wrote} {exit : List ℕ}
+    count-reached : (size word : ℕ) {wrote : Wrote} {exit : List ℕ}
         → s .link .window ≡ window.Some size
         → size ≤ s .link .pending + n
         → pending ≡ 0
@@ -155,3 +156,20 @@ module _ (s : ClientSession) (clock : RtmpTimestamp) (n : ℕ) {after : ClientSe
     count-reached size word w l p i v q =
         by-case (countedBy s clock n) w
         (rw (le-leb size (s .link .pending + n) l) (sent-goes (rw i at v) (rw (counted-is, p) at q)))
+
+-- a count that reaches the window, by what writing the acknowledgement answered
+module _ (s : ClientSession) (clock : RtmpTimestamp) (n : ℕ) {total : ℕ} (sum : total ≡ (s .link .total + n) % 2 ^ 64) (size word : ℕ)
+    {old exit : List ℕ} {r : Called} {wrote : Wrote}
+    (w : s .link .window ≡ window.Some size)
+    (l : size ≤ s .link .pending + n)
+    (i : word ≡ (s .link .pending + n) % 2 ^ 32)
+    (v : Written old (wordBody word) exit wrote) where
+  pub count-unsent : wrote ≡ NoSpace → r ≡ refusedWith s Space → Comes s (count s clock n) old r exit
+  count-unsent e q = count-reached s clock n {after = withCounts s 0 total} sum refl size word w l refl i v (rw e q)
+
+  pub count-sent : {m : ℕ} {p : Packet}
+      → wrote ≡ Done m
+      → p ≡ packetOf 3 clock (record { 0 = 0 }) false m
+      → r ≡ record { outcome = One (OutboundResponse p); session = withCounts s 0 total }
+      → Comes s (count s clock n) old r exit
+  count-sent e f q = count-reached s clock n sum refl size word w l refl i v (rw e (rw f at q))

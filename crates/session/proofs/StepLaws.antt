@@ -29,6 +29,7 @@ use Rattle.session.specs.declared.record.ActiveStream.the-variants as ac
 use Rattle.session.specs.declared.record.Called.{Called}
 use Rattle.session.specs.declared.record.ClientSession.{ClientSession}
 use Rattle.session.specs.declared.result.ClientSessionResult.the-variants.{OutboundResponse}
+use Rattle.session.specs.declared.result.Outcome.{Outcome}
 use Rattle.session.specs.declared.result.Outcome.the-variants.{Nothing, One}
 use Rattle.session.specs.declared.state.ClientState.{ClientState}
 use Rattle.session.specs.declared.state.ClientState.the-variants.{Connected}
@@ -58,6 +59,14 @@ module _ {s : ClientSession} {clock : RtmpTimestamp} {c : Call} {old : List ℕ}
   does e h d =
       let f = is-said e h in
       record { answers = rw f (d .answers); handsBack = rw f (d .handsBack); leaves = rw f (d .leaves) }
+
+  pub does-as : {p : Plan} {exit : List ℕ} → t ≡ isSession s → not t ≡ false → plan s clock c ≡ p → Comes s p old r exit → Does s clock c old r exit
+  does-as e h q d = does e h (rw q d)
+
+-- a session that is handed back beside an outcome that was found before
+pub handed : {s after t : ClientSession} {clock : RtmpTimestamp} {c : Call} {old exit : List ℕ} {o : Outcome} {r : Called}
+    → after ≡ t → r ≡ record { outcome = o; session = after } → Does s clock c old (record { outcome = o; session = t }) exit → Does s clock c old r exit
+handed e q d = rw (q, e) d
 
 module _ {s : ClientSession} {old : List ℕ} {r : Called} where
   -- what a plan comes to, worked out

@@ -14,7 +14,7 @@ use Rattle.bodies.specs.Bodies.{connectBody, createStreamBody, deleteStreamBody
 use Rattle.requests.specs.Texts.{fits, textOf}
 use Rattle.requests.specs.Table.{spent, eightOpen, asked}
 use Rattle.requests.specs.declared.outstanding_transaction.OutstandingTransaction.{OutstandingTransaction}
-use Rattle.session.specs.Record.{withProgress, withRequests, withLink}
+use Rattle.session.specs.Record.{withProgress, withRequests, withCounts}
 use Rattle.session.specs.Calls.{Message, plain, onStream, Result, sends, Results, nothing, one, pinged}
 use Rattle.session.specs.declared.errors.ClientSessionError.{ClientSessionError}
 use Rattle.session.specs.declared.errors.ClientSessionError.the-variants.{SessionInInvalidState, NoKnownActiveStreamIdWhenRequired, Length, EightOpen, Spent}
@@ -138,14 +138,7 @@ module _ (s : ClientSession) (clock : RtmpTimestamp) where
 
   -- byte counts: all enter a total that wraps; once a window is set also a pending count
   abbrev pub counted : ℕ → ℕ → ClientSession
-  counted n pending =
-      withLink s
-      (record {
-        chunk = s .link .chunk;
-        window = s .link .window;
-        pending = pending;
-        total = (s .link .total + n) % 2 ^ 64;
-      })
+  counted n pending = withCounts s pending ((s .link .total + n) % 2 ^ 64)
 
   -- pending reaches the window: an Acknowledgement of its low 32 bits
   abbrev pub countedBy : ℕ → PeerWindow → Plan

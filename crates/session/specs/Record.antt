@@ -73,3 +73,7 @@ withRequests s q = record { config = s .config; progress = s .progress; requests
 
 abbrev pub withLink : ClientSession → Link → ClientSession
 withLink s l = record { config = s .config; progress = s .progress; requests = s .requests; link = l }
+
+-- with other byte counts
+abbrev pub withCounts : ClientSession → ℕ → ℕ → ClientSession
+withCounts s pending total = withLink s (record { chunk = s .link .chunk; window = s .link .window; pending = pending; total = total })

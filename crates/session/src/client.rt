@@ -8,6 +8,8 @@ use crate::record::ClientSession;
 use crate::record::Link;
 use crate::record::PeerWindow;
 use crate::record::Progress;
+use crate::result::ClientSessionResult;
+use crate::result::Outcome;
 use crate::sending;
 use crate::stages;
 use crate::state::ClientState;
@@ -22,11 +24,18 @@ use requests::TakeAnswer;
 use requests::TransactionPurpose;
 ghost use mathlib.Core.Path.{_≡_};
 ghost use mathlib.Core.Bool.{false};
-ghost use Rattle.session.specs.Record.{isSession, openOf};
-ghost use Rattle.session.specs.Calls.{connect, play, publish, stopPlayback, stopPublishing, ping, picture, sound, metadata, bytes};
+ghost use Rattle.session.specs.Record.{isSession, openOf, withCounts};
+ghost use Rattle.session.specs.Calls.{Call, connect, play, publish, stopPlayback, stopPublishing, ping, picture, sound, metadata, bytes};
 ghost use Rattle.session.specs.Plan.{request, unlessStage, isConnected, createNext, stopped as stoppedOf, published, ifLarge};
+ghost use Rattle.session.specs.Step.{plan};
 ghost use Rattle.session.specs.Comes.{Comes};
 ghost use Rattle.session.specs.Contract.{Does};
+
+struct Counted {
+    outcome: Outcome,
+    pending: u32,
+    total: u64,
+}
 
 impl ClientSession {
     // Opening.
@@ -223,7 +232,8 @@ impl ClientSession {
         }
     }
 
-    // Pictures and sound: the caller's time and droppable flag.
+    // What pictures and sound come to: the caller's time and droppable flag, and the session as it was. It is handed back in one place,
+    // by the caller, so that the compiler leaves it where it lies.
     fn publish_data(
         self,
         type_id: u8,
@@ -231,23 +241,26 @@ impl ClientSession {
         time: RtmpTimestamp,
         droppable: bool,
         out: &mut [u8],
-    ) -> Called
-        ensures { λ r. ⌜ ((clock : RtmpTimestamp) → Comes self (published self clock (ifLarge (now («data» .entry))) (λ x. record { typeId = «type_id»; time = time; stream = x; droppable = droppable; uncompressed = false; body = now («data» .entry) })) (now (out .entry)) r (now (out .exit))) ⌝ }
+    ) -> Outcome
+        ensures { λ r. ⌜ ((clock : RtmpTimestamp) (c : Call) → plan self clock c ≡ published self clock (ifLarge (now («data» .entry))) (λ x. record { typeId = «type_id»; time = time; stream = x; droppable = droppable; uncompressed = false; body = now («data» .entry) }) → Does self clock c (now (out .entry)) (record { outcome = r; session = self }) (now (out .exit))) ⌝ }
     {
+        if !self.is_session() {
+            return Outcome::Refused(ClientSessionError::NotASession);
+        }
         let progress = self.progress;
         let state = progress.state;
         if !stages::is_publishing(state) {
-            return self.refused(ClientSessionError::SessionInInvalidState(state));
+            return Outcome::Refused(ClientSessionError::SessionInInvalidState(state));
         }
         let active = progress.active;
         let ActiveStream::Some(stream) = active else {
-            return self.refused(ClientSessionError::NoKnownActiveStreamIdWhenRequired);
+            return Outcome::Refused(ClientSessionError::NoKnownActiveStreamIdWhenRequired);
         };
         if 16777215 < data.len() {
-            return self.refused(ClientSessionError::Length);
+            return Outcome::Refused(ClientSessionError::Length);
         }
         let wrote = octets::write_bytes(out, data);
-        self.sent(self, type_id, time, stream, droppable, wrote)
+        sending::outcome(type_id, time, stream, droppable, wrote)
     }
 
     pub fn publish_video_data(
@@ -260,10 +273,8 @@ impl ClientSession {
     ) -> Called
         ensures { λ r. ⌜ Does self clock (picture (now («data» .entry)) time droppable) (now (out .entry)) r (now (out .exit)) ⌝ }
     {
-        if !self.is_session() {
-            return self.refused(ClientSessionError::NotASession);
-        }
-        self.publish_data(9, data, time, droppable, out)
+        let outcome = self.publish_data(9, data, time, droppable, out);
+        self.with_outcome(outcome)
     }
 
     pub fn publish_audio_data(
@@ -276,10 +287,8 @@ impl ClientSession {
     ) -> Called
         ensures { λ r. ⌜ Does self clock (sound (now («data» .entry)) time droppable) (now (out .entry)) r (now (out .exit)) ⌝ }
     {
-        if !self.is_session() {
-            return self.refused(ClientSessionError::NotASession);
-        }
-        self.publish_data(8, data, time, droppable, out)
+        let outcome = self.publish_data(8, data, time, droppable, out);
+        self.with_outcome(outcome)
     }
 
     // The encoder's text lies in `text`.
@@ -312,32 +321,60 @@ impl ClientSession {
         self.sent(self, 18, clock, stream, false, wrote)
     }
 
-    // A count of bytes that came, before the messages that they brought.
-    pub fn handle_bytes(self, clock: RtmpTimestamp, count: u32, out: &mut [u8]) -> Called
-        ensures { λ r. ⌜ Does self clock (bytes count) (now (out .entry)) r (now (out .exit)) ⌝ }
+    // What a count comes to, and the link's counts after it; the rest of the session stays.
+    fn count(self, clock: RtmpTimestamp, count: u32, out: &mut [u8]) -> Counted
+        ensures { λ r. ⌜ Does self clock (bytes count) (now (out .entry)) (record { outcome = r .outcome; session = withCounts self (r .pending) (r .total) }) (now (out .exit)) ⌝ }
     {
-        if !self.is_session() {
-            return self.refused(ClientSessionError::NotASession);
-        }
         let link = self.link;
+        if !self.is_session() {
+            return Counted {
+                outcome: Outcome::Refused(ClientSessionError::NotASession),
+                pending: link.pending,
+                total: link.total,
+            };
+        }
         let window = link.window;
         let total = std::num::wrapping_add_u64(link.total, count as u64);
         let PeerWindow::Some(size) = window else {
-            return self.counted(link.pending, total).quiet();
+            return Counted {
+                outcome: Outcome::Nothing,
+                pending: link.pending,
+                total,
+            };
         };
         let sum = (link.pending as u64) + (count as u64);
         let low = std::num::wrapping_add_u32(link.pending, count);
         if sum < size as u64 {
-            return self.counted(low, total).quiet();
+            return Counted {
+                outcome: Outcome::Nothing,
+                pending: low,
+                total,
+            };
         }
-        let wrote = bodies::write_acknowledgement(out, low);
-        self.sent(
-            self.counted(0, total),
-            3,
-            clock,
-            StreamNumber(0),
-            false,
-            wrote,
-        )
+        match bodies::write_acknowledgement(out, low) {
+            Wrote::NoSpace => Counted {
+                outcome: Outcome::Refused(ClientSessionError::Space),
+                pending: link.pending,
+                total: link.total,
+            },
+            Wrote::Done(len) => {
+                let packet = sending::packet(3, clock, StreamNumber(0), false, len);
+                Counted {
+                    outcome: Outcome::One(ClientSessionResult::OutboundResponse(packet)),
+                    pending: 0,
+                    total,
+                }
+            }
+        }
+    }
+
+    // A count of bytes that came, before the messages that they brought.
+    pub fn handle_bytes(self, clock: RtmpTimestamp, count: u32, out: &mut [u8]) -> Called
+        ensures { λ r. ⌜ Does self clock (bytes count) (now (out .entry)) r (now (out .exit)) ⌝ }
+    {
+        let counted = self.count(clock, count, out);
+        let outcome = counted.outcome;
+        let after = self.counted(counted.pending, counted.total);
+        after.with_outcome(outcome)
     }
 }

@@ -12,7 +12,7 @@ use messages::StreamNumber;
 use octets::Wrote;
 use requests::Requests;
 ghost use mathlib.Core.Path.{_≡_};
-ghost use Rattle.session.specs.Record.{isSession, withProgress, withRequests, withLink};
+ghost use Rattle.session.specs.Record.{isSession, withProgress, withRequests, withLink, withCounts};
 ghost use Rattle.session.specs.Comes.{refusedWith, quiet as quietly, sentAs};
 
 pub enum ActiveStream {
@@ -163,7 +163,7 @@ impl ClientSession {
 
     // With other byte counts.
     pub(crate) fn counted(self, pending: u32, total: u64) -> ClientSession
-        ensures { λ r. ⌜ r ≡ withLink self (record { chunk = self .link .chunk; window = self .link .window; pending = pending; total = total }) ⌝ }
+        ensures { λ r. ⌜ r ≡ withCounts self pending total ⌝ }
     {
         let mut after = self;
         after.link.pending = pending;

@@ -1,5 +1,9 @@
 // Bodies written from what the session holds, and the packets of what was written.
 use crate::config::ClientSessionConfig;
+use crate::errors::ClientSessionError;
+use crate::record::ClientSession;
+use crate::result::ClientSessionResult;
+use crate::result::Outcome;
 use crate::result::Packet;
 use amf0::TextAt;
 use messages::RtmpTimestamp;
@@ -16,7 +20,7 @@ ghost use Rattle.amf0.specs.Places.{stretch};
 ghost use Rattle.bodies.specs.Bodies.{connectBody};
 ghost use Rattle.requests.specs.Texts.{fits, textOf, textSound};
 ghost use Rattle.session.specs.Record.{textsSound};
-ghost use Rattle.session.specs.Comes.{packetOf};
+ghost use Rattle.session.specs.Comes.{packetOf, sentAs};
 
 // A message whose body starts at output byte 0.
 pub(crate) fn packet(
@@ -36,6 +40,25 @@ pub(crate) fn packet(
         uncompressed: false,
         start: 0,
         len,
+    }
+}
+
+// One message that was written from byte 0, or refusal 12.
+pub(crate) fn outcome(
+    type_id: u8,
+    time: RtmpTimestamp,
+    stream: StreamNumber,
+    droppable: bool,
+    wrote: Wrote,
+) -> Outcome
+    ensures { λ r. ⌜ ((s : ClientSession) → record { outcome = r; session = s } ≡ sentAs s s «type_id» time stream droppable wrote) ⌝ }
+{
+    match wrote {
+        Wrote::NoSpace => Outcome::Refused(ClientSessionError::Space),
+        Wrote::Done(len) => {
+            let packet = packet(type_id, time, stream, droppable, len);
+            Outcome::One(ClientSessionResult::OutboundResponse(packet))
+        }
     }
 }
 

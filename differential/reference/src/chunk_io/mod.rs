@@ -1,7 +1,7 @@
 //! Stands where chunk_io stands. The session's serializer is a recorder: a packet is the message and its two flags in
 //! place of chunks. Its deserializer hands over what the harness has set. The error types are the text's.
 //! The text's own serializer and deserializer are compiled beside them, for `self_test`, with a chunk_header.rs of the
-//! harness.
+//! harness. With `--cfg chunks` the session has the text's serializer itself, for the benchmark.
 
 mod chunk_header;
 mod deserialization_errors;
@@ -11,6 +11,8 @@ mod serializer;
 
 pub use self::deserialization_errors::ChunkDeserializationError;
 pub use self::serialization_errors::ChunkSerializationError;
+#[cfg(chunks)]
+pub use self::serializer::{ChunkSerializer, Packet};
 
 use bytes::Bytes;
 use messages::{MessagePayload, RtmpMessage};
@@ -18,6 +20,7 @@ use std::collections::VecDeque;
 use time::RtmpTimestamp;
 
 /// A recorded message.
+#[cfg(not(chunks))]
 #[derive(Debug, PartialEq)]
 pub struct Packet {
     pub message: MessagePayload,
@@ -25,8 +28,10 @@ pub struct Packet {
     pub can_be_dropped: bool,
 }
 
+#[cfg(not(chunks))]
 pub struct ChunkSerializer;
 
+#[cfg(not(chunks))]
 impl ChunkSerializer {
     pub fn new() -> ChunkSerializer {
         ChunkSerializer
@@ -90,6 +95,7 @@ impl ChunkDeserializer {
 
 /// The recorder against the text's serializer, whose chunks the text's deserializer reads: the same refusals and the same
 /// message for each chunk size, a header of format 0 exactly where the recorder says so, and the same limit of a body.
+#[cfg(not(chunks))]
 pub fn self_test() {
     for size in &[0, 1, 128, 4096, 2147483647, 2147483648, 4294967295] {
         for time in &[0, 7, 16777215, 4294967295] {

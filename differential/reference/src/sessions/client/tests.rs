@@ -42,6 +42,17 @@ impl ClientSession {
         results
     }
 
+    /// One message with nothing made anew for it, for the benchmark: the window must be unset.
+    pub fn hand_over(&mut self, message: MessagePayload) -> ClientResult {
+        self.deserializer.next.push_back(message);
+        self.handle_input(&[])
+    }
+
+    pub fn put_at(&mut self, state: ClientState, active: Option<u32>) {
+        self.current_state = state;
+        self.active_stream_id = active;
+    }
+
     pub fn set_next_number(&mut self, number: u32) {
         self.next_transaction_id = number;
     }

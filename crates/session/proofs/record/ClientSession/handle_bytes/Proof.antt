@@ -1,68 +1,15 @@
--- `ClientSession::handle_bytes` meets its contract: refusal 13, then no window, a sum below it, a sum that reaches it. A sum below a window of 32 bits is its own low 32 bits.
+-- `ClientSession::handle_bytes` meets its contract: what `count` finds, and the session with its counts.
 -- Assumes nothing.
-use Prim.Native.Nat.{_+_}
-use mathlib.Core.Path.{_≡_, refl}
-use native.Mathlib.Omega.{arith}
 use borrow.Author.Needs.{needs}
-use Rattle.session.specs.Step.{plan}
-use Rattle.session.proofs.StepLaws.{does-13, does}
-use Rattle.session.proofs.CallLaws.{count-alone, count-below, count-reached}
+use Rattle.session.proofs.StepLaws.{handed}
 use Rattle.session.proofs.record.ClientSession.handle_bytes.Statement.{statement}
 use Rattle.session.proofs.record.ClientSession.handle_bytes.Tie as tie
 
 returns : tie.Need-returns
-returns c = does-13 (c .before .before .is-session .ensures) (c .before .if1 .taken) (c .refused .ensures)
-
-returns-2 : tie.Need-returns-2
-unfolding plan
-returns-2 c =
+returns c =
     let k = c .before .before .before .before in
-    does (k .before .before .before .is-session .ensures) (k .before .before .if1 .left)
-    (count-alone _ _ _ (k .wrapping-add-u64 .ensures) (c .before .counted .ensures) (c .before .before .enum-told .given .1) refl (c .quiet .ensures))
-
--- a sum below the window loses nothing
-low-is : (c : tie.Then2) → c .before .wrapping-add-u32 .result ≡ c .before .before .before .before .before .before .before .before .before .before .before .args .self .link .pending + c .before .before .before .before .before .before .before .before .before .before .before .args .count
-low-is c = omega arith
-
-returns-3 : tie.Need-returns-3
-unfolding plan
-returns-3 c =
-    let w = c .before .before .before .before .before .before in
-    let k = w .before .before in
-    does (k .before .before .before .is-session .ensures) (k .before .before .if1 .left)
-    (count-below _ _ _ (k .wrapping-add-u64 .ensures) (c .before .counted2 .ensures) _ (w .window .given .1) (omega (arith, c .before .before .if2 .taken)) (low-is (c .before .before)) (c .quiet2 .ensures))
-
-returns-4 : tie.Need-returns-4
-unfolding plan
-returns-4 c =
-    let m = c .before .before .before .before .before .before .before in
-    let w = m .before .before .before in
-    let k = w .before .before in
-    does (k .before .before .before .is-session .ensures) (k .before .before .if1 .left)
-    (count-reached _ _ _ (k .wrapping-add-u64 .ensures) (c .before .counted3 .ensures) _ _ (w .window .given .1) (omega (arith, c .before .before .before .before .before .before .if2 .left)) refl (m .wrapping-add-u32 .ensures) (c .before .before .before .before .write-acknowledgement .ensures) (c .sent .ensures))
+    handed (c .before .counted .ensures) (c .with-outcome .ensures) (k .count .ensures)
 
 pub handle-bytes-spec : {M : Type 1} → statement M
 handle-bytes-spec =
-    tie.close
-    (tie.spec
-    (λ c κs. search needs)
-    (λ c κs. search needs)
-    returns
-    (λ c κs. search needs)
-    (λ c. search needs)
-    (λ c. search needs)
-    (λ c κs. search needs)
-    (λ c κs. search needs)
-    returns-2
-    (λ c. search needs)
-    (λ c. search needs)
-    (λ c κs. search needs)
-    (λ c. search needs)
-    (λ c κs. search needs)
-    (λ c κs. search needs)
-    returns-3
-    (λ c κs. search needs)
-    (λ c κs. search needs)
-    (λ c κs. search needs)
-    (λ c. search needs)
-    returns-4)
+    tie.close (tie.spec (λ c κs. search needs) (λ c κs. search needs) (λ c κs. search needs) (λ c. search needs) returns)

@@ -1,8 +1,8 @@
 -- `asking` is safe and ends. Assumes nothing.
 use Prim.Native.Nat.{_-_}
 use borrow.Author.Needs.{needs}
-use Rattle.pictures.proofs.asking.Statement.{statement}
-use Rattle.pictures.proofs.asking.Tie as tie
+use Rattle.bench_session.proofs.asking.Statement.{statement}
+use Rattle.bench_session.proofs.asking.Tie as tie
 
 abbrev Inv-loop : tie.InvT-loop
 Inv-loop «open» requests₀ i₀ requests i = Unit {0}
