@@ -31,11 +31,8 @@ ghost use Rattle.session.specs.Step.{plan};
 ghost use Rattle.session.specs.Comes.{Comes};
 ghost use Rattle.session.specs.Contract.{Does};
 
-struct Counted {
-    outcome: Outcome,
-    pending: u32,
-    total: u64,
-}
+// What a count comes to, then pending and total after it.
+struct Counted(Outcome, u32, u64);
 
 impl ClientSession {
     // Opening.
@@ -323,47 +320,32 @@ impl ClientSession {
 
     // What a count comes to, and the link's counts after it; the rest of the session stays.
     fn count(self, clock: RtmpTimestamp, count: u32, out: &mut [u8]) -> Counted
-        ensures { λ r. ⌜ Does self clock (bytes count) (now (out .entry)) (record { outcome = r .outcome; session = withCounts self (r .pending) (r .total) }) (now (out .exit)) ⌝ }
+        ensures { λ r. ⌜ Does self clock (bytes count) (now (out .entry)) (record { outcome = r .0; session = withCounts self (r .1) (r .2) }) (now (out .exit)) ⌝ }
     {
         let link = self.link;
         if !self.is_session() {
-            return Counted {
-                outcome: Outcome::Refused(ClientSessionError::NotASession),
-                pending: link.pending,
-                total: link.total,
-            };
+            let away = Outcome::Refused(ClientSessionError::NotASession);
+            return Counted(away, link.pending, link.total);
         }
         let window = link.window;
         let total = std::num::wrapping_add_u64(link.total, count as u64);
         let PeerWindow::Some(size) = window else {
-            return Counted {
-                outcome: Outcome::Nothing,
-                pending: link.pending,
-                total,
-            };
+            return Counted(Outcome::Nothing, link.pending, total);
         };
         let sum = (link.pending as u64) + (count as u64);
         let low = std::num::wrapping_add_u32(link.pending, count);
         if sum < size as u64 {
-            return Counted {
-                outcome: Outcome::Nothing,
-                pending: low,
-                total,
-            };
+            return Counted(Outcome::Nothing, low, total);
         }
         match bodies::write_acknowledgement(out, low) {
-            Wrote::NoSpace => Counted {
-                outcome: Outcome::Refused(ClientSessionError::Space),
-                pending: link.pending,
-                total: link.total,
-            },
+            Wrote::NoSpace => {
+                let away = Outcome::Refused(ClientSessionError::Space);
+                Counted(away, link.pending, link.total)
+            }
             Wrote::Done(len) => {
                 let packet = sending::packet(3, clock, StreamNumber(0), false, len);
-                Counted {
-                    outcome: Outcome::One(ClientSessionResult::OutboundResponse(packet)),
-                    pending: 0,
-                    total,
-                }
+                let sent = Outcome::One(ClientSessionResult::OutboundResponse(packet));
+                Counted(sent, 0, total)
             }
         }
     }
@@ -373,8 +355,8 @@ impl ClientSession {
         ensures { λ r. ⌜ Does self clock (bytes count) (now (out .entry)) r (now (out .exit)) ⌝ }
     {
         let counted = self.count(clock, count, out);
-        let outcome = counted.outcome;
-        let after = self.counted(counted.pending, counted.total);
+        let outcome = counted.0;
+        let after = self.counted(counted.1, counted.2);
         after.with_outcome(outcome)
     }
 }
