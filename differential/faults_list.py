@@ -236,7 +236,7 @@ CARD = [
 ]
 
 EVENTS = [
-    ('a width that came is the height', 'messages/src/stream_metadata.rt', 'whole(field(body, at, b"width"))', 'whole(field(body, at, b"height"))'),
+    ('a width that came is the height', 'messages/src/stream_metadata.rt', 'whole(kind_there(body, places[0]))', 'whole(kind_there(body, places[1]))'),
     ('a frame rate that is absent is 0', 'messages/src/stream_metadata.rt', 'Kind::Malformed => OptionF32::None', 'Kind::Malformed => OptionF32::Some(0.0)'),
     ('a tie goes to the upper single', 'numbers/src/lib.rt:nearest', 'whole + whole % 2', 'whole + 1'),
     ('stereo that came is turned round', 'messages/src/stream_metadata.rt', 'OptionBool::Some(b)', 'OptionBool::Some(!b)'),

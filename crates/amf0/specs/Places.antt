@@ -1,12 +1,12 @@
 -- What the readers answer: places in the slice s that a reading began in, worked out from what it left over.
 -- Assumes nothing.
 use Prim.Native.Nat.{ℕ, _-_}
-use mathlib.Core.Bool.{Bool, not}
+use mathlib.Core.Bool.{not}
 use mathlib.Core.List.{List, []}
 use mathlib.Core.Option.{Option, none, some}
 use lib.Dec.{eqb}
 use lib.ListN.{length}
-use Rattle.octets.specs.Parse.{Parse, bad, got, and-then, placeOf}
+use Rattle.octets.specs.Parse.{Parse, bad, got, placeOf}
 use Rattle.octets.specs.BigEndian.{uint, readAs}
 use Rattle.octets.specs.Compare.{part}
 use Rattle.amf0.specs.Value.{Value, number, boolean, text, object, null, undefined, strict, Values}
@@ -70,6 +70,31 @@ kindOf s (object ps) r = kind.Object
 kindOf s null r = kind.Null
 kindOf s undefined r = kind.Undefined
 kindOf s (strict vs) r = kind.Array
+
+-- after a count
+abbrev pub startOf : List ℕ → Parse ℕ → Found
+startOf s bad = found.Malformed
+startOf s (got n r) = found.At (placeOf s r)
+
+-- where the properties of an object start: right after its marker, or after an ECMA array's count
+abbrev pub startAfter : List ℕ → Marker → List ℕ → Found
+startAfter s marker.Number x = found.Absent
+startAfter s marker.Boolean x = found.Absent
+startAfter s marker.Text x = found.Absent
+startAfter s marker.Object x = found.At (placeOf s x)
+startAfter s marker.Null x = found.Absent
+startAfter s marker.Undefined x = found.Absent
+startAfter s marker.EcmaArray x = startOf s (uint 4 x)
+startAfter s marker.StrictArray x = found.Absent
+startAfter s marker.Other x = found.Malformed
+
+abbrev pub startFrom : List ℕ → Parse ℕ → Found
+startFrom s bad = found.Malformed
+startFrom s (got m x) = startAfter s (markerOf m) x
+
+-- of the value that x, a last part of s, begins with
+unfoldable pub startAt : List ℕ → List ℕ → Found
+startAt s x = startFrom s (uint 1 x)
 
 -- where the value of a property starts
 unfoldable pub foundAt : List ℕ → Option Property → Found

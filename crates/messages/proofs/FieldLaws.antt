@@ -11,35 +11,26 @@ use Rattle.amf0.specs.Decode.{Property, value, topValue}
 use Rattle.amf0.specs.Lookup.{lastOf, property, propertiesAt}
 use Rattle.amf0.specs.Places.{kindAt, kindOf, foundAt, foundOf, onlyText, textFound, textOfProperty}
 use Rattle.amf0.specs.declared.kinds.Kind.{Kind}
-use Rattle.amf0.specs.declared.kinds.Kind.the-variants as kind
-use Rattle.amf0.specs.declared.properties.Found.{Found}
-use Rattle.amf0.specs.declared.properties.Found.the-variants as found
 use Rattle.amf0.specs.declared.properties.TextAt.{TextAt}
 use Rattle.amf0.specs.declared.properties.TextAt.the-variants as textAt
 use Rattle.amf0.proofs.CutLaws.{clash, past-place}
 use Rattle.amf0.proofs.KindLaws.{told}
 use Rattle.amf0.proofs.LookupLaws.{Stands, found-stands, located}
 use Rattle.messages.specs.Notice.{asText}
-use Rattle.messages.specs.Metadata.{kindFound, fieldKind, fieldOf}
+use Rattle.messages.specs.Metadata.{kindFound, fieldKind, fieldOf, placeFound, kindThere}
 use Rattle.messages.proofs.LeafLaws.{Lies, text-lies}
 
--- what `field` answers after each answer of `find`
-abbrev pub kindThere : List ℕ → Found → Kind
-kindThere s (found.At place) = kindAt s (drop place s)
-kindThere s found.Absent = kind.Malformed
-kindThere s found.Malformed = kind.Malformed
-
 module _ (name s : List ℕ) (at : ℕ) where
-  pub field-there : (o : Found) → o ≡ foundOf s name (propertiesAt (drop at s)) → kindThere s o ≡ fieldKind s name (propertiesAt (drop at s))
+  pub field-there : kindThere s (placeFound (foundOf s name (propertiesAt (drop at s)))) ≡ fieldKind s name (propertiesAt (drop at s))
   unfolding foundOf foundAt fieldKind
-  field-there o e = rw e (go (propertiesAt (drop at s)) refl)
+  field-there = go (propertiesAt (drop at s)) refl
     where
       go2 : (ps : List Property) (r : List ℕ) → propertiesAt (drop at s) ≡ got ps r → (p : Option Property) → lastOf name ps ≡ p
-          → kindThere s (foundAt s p) ≡ kindFound s p
+          → kindThere s (placeFound (foundAt s p)) ≡ kindFound s p
       go2 ps r e none l = refl
       go2 ps r e (some p) l = ap (kindAt s) (sym (past-place s at (found-stands name p (drop at s) e l .place)))
 
-      go : (q : Parse (List Property)) → propertiesAt (drop at s) ≡ q → kindThere s (foundOf s name q) ≡ fieldKind s name q
+      go : (q : Parse (List Property)) → propertiesAt (drop at s) ≡ q → kindThere s (placeFound (foundOf s name q)) ≡ fieldKind s name q
       go bad e = refl
       go (got ps r) e = go2 ps r e (lastOf name ps) refl
 

@@ -7,6 +7,7 @@ pub mod ValuesLaws
 pub mod CommandLaws
 pub mod DataLaws
 pub mod FieldLaws
+pub mod PlacesLaws
 pub mod DecodeLaws
 pub mod MeaningLaws
 pub mod Starred

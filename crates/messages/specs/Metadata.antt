@@ -1,19 +1,23 @@
 -- The metadata of a stream, read from an object. Of equal names the later holds, and then its kind is judged: a field is absent where the
 -- value is of the wrong kind (document 01, "Bodies").
 -- Assumes nothing.
-use Prim.Native.Nat.{ℕ}
-use mathlib.Core.List.{List}
+use Prim.Native.Nat.{ℕ, zero, suc}
+use mathlib.Core.Bool.{cond}
+use mathlib.Core.List.{List, [], _∷_, map}
 use mathlib.Core.Option.{Option, none, some}
 use lib.Ieee.{binary64, ofBits}
+use lib.ListN.{drop}
 use Rattle.octets.specs.Parse.{Parse, bad, got}
-use Rattle.octets.specs.Compare.{ascii}
+use Rattle.octets.specs.Compare.{ascii, same}
 use Rattle.numbers.specs.Numbers.{held, narrowed}
 use Rattle.amf0.specs.Value.{Value}
 use Rattle.amf0.specs.Decode.{Property}
 use Rattle.amf0.specs.Lookup.{lastOf, propertiesAt}
-use Rattle.amf0.specs.Places.{kindAt, kindOf, onlyText}
+use Rattle.amf0.specs.Places.{kindAt, kindOf, foundOf, onlyText}
 use Rattle.amf0.specs.declared.kinds.Kind.{Kind}
 use Rattle.amf0.specs.declared.kinds.Kind.the-variants as kind
+use Rattle.amf0.specs.declared.properties.Found.{Found}
+use Rattle.amf0.specs.declared.properties.Found.the-variants as found
 use Rattle.messages.specs.declared.stream_metadata.OptionU32.{OptionU32}
 use Rattle.messages.specs.declared.stream_metadata.OptionU32.the-variants as u32
 use Rattle.messages.specs.declared.stream_metadata.OptionF32.{OptionF32}
@@ -35,6 +39,44 @@ fieldKind s name (got ps r) = kindFound s (lastOf name ps)
 abbrev pub fieldOf : List ℕ → List ℕ → Option Value → Kind
 fieldOf s r none = kind.Malformed
 fieldOf s r (some v) = kindOf s v r
+
+-- the fields' names, in the order of sending
+abbrev pub fieldNames : List (List ℕ)
+fieldNames =
+    ascii "width"
+    ∷ ascii "height"
+    ∷ ascii "videocodecid"
+    ∷ ascii "framerate"
+    ∷ ascii "videodatarate"
+    ∷ ascii "audiocodecid"
+    ∷ ascii "audiodatarate"
+    ∷ ascii "audiosamplerate"
+    ∷ ascii "audiochannels"
+    ∷ ascii "stereo"
+    ∷ ascii "encoder"
+    ∷ []
+
+-- which of the names n is; of another name, how many there are
+unfoldable pub indexIn : List (List ℕ) → List ℕ → ℕ
+indexIn [] n = 0
+indexIn (m ∷ ms) n = cond (same n m) 0 (suc (indexIn ms n))
+
+abbrev pub fieldIndex : List ℕ → ℕ
+fieldIndex = indexIn fieldNames
+
+-- one more than the place of what was found, and 0 where nothing was
+abbrev pub placeFound : Found → ℕ
+placeFound (found.At e) = suc e
+placeFound found.Absent = 0
+placeFound found.Malformed = 0
+
+unfoldable pub fieldPlaces : List ℕ → Parse (List Property) → List ℕ
+fieldPlaces s q = map (λ n. placeFound (foundOf s n q)) fieldNames
+
+-- the kind of the value at such a place
+abbrev pub kindThere : List ℕ → ℕ → Kind
+kindThere s zero = kind.Malformed
+kindThere s (suc e) = kindAt s (drop e s)
 
 -- a whole field is held as a reply number is
 abbrev pub wholeField : Kind → OptionU32

@@ -2,11 +2,13 @@
 use crate::kind::text_of;
 use amf0::Found;
 use amf0::Kind;
+use amf0::PropertyAt;
 use amf0::TextAt;
 ghost use mathlib.Core.Path.{_≡_};
 ghost use lib.ListN.{drop};
+ghost use Rattle.amf0.specs.Decode.{objectOf, value};
 ghost use Rattle.amf0.specs.Lookup.{propertiesAt};
-ghost use Rattle.messages.specs.Metadata.{fieldKind, wholeField, rateField, flagField, metadataAt};
+ghost use Rattle.messages.specs.Metadata.{fieldIndex, fieldPlaces, kindThere, wholeField, rateField, flagField, metadataAt};
 
 pub enum OptionU32 {
     None,
@@ -38,15 +40,86 @@ pub struct StreamMetadata {
     pub encoder: TextAt,
 }
 
-// The kind of the last property `name` of the object at `at`; Malformed where there is none.
-fn field(body: &[u8], at: usize, name: &[u8]) -> Kind
-    ensures { λ r. ⌜ r ≡ fieldKind (now (body .entry)) (now (name .entry)) (propertiesAt (drop at (now (body .entry)))) ⌝ }
+// Which field's name that is, in the order of sending: 11 for another name.
+fn field_index(name: &[u8]) -> usize
+    ensures { λ r. ⌜ r ≡ fieldIndex (now (name .entry)) ⌝ }
 {
-    match amf0::find(body, at, name) {
-        Found::At(place) => amf0::kind_at(body, place),
-        Found::Absent => Kind::Malformed,
-        Found::Malformed => Kind::Malformed,
+    if octets::same(name, b"width") {
+        return 0;
     }
+    if octets::same(name, b"height") {
+        return 1;
+    }
+    if octets::same(name, b"videocodecid") {
+        return 2;
+    }
+    if octets::same(name, b"framerate") {
+        return 3;
+    }
+    if octets::same(name, b"videodatarate") {
+        return 4;
+    }
+    if octets::same(name, b"audiocodecid") {
+        return 5;
+    }
+    if octets::same(name, b"audiodatarate") {
+        return 6;
+    }
+    if octets::same(name, b"audiosamplerate") {
+        return 7;
+    }
+    if octets::same(name, b"audiochannels") {
+        return 8;
+    }
+    if octets::same(name, b"stereo") {
+        return 9;
+    }
+    if octets::same(name, b"encoder") {
+        return 10;
+    }
+    11
+}
+
+// For each field one more than where the value of the last property of its name starts, among those at `at`: 0 where there is none.
+fn places_in(body: &[u8], at: usize) -> [usize; 11]
+    ensures { λ r. ⌜ r ≡ fieldPlaces (now (body .entry)) (objectOf (value 7) (drop at (now (body .entry)))) ⌝ }
+{
+    let mut places = [0; 11];
+    let mut i = at;
+    loop {
+        match amf0::property_at(body, i) {
+            PropertyAt::End => return places,
+            PropertyAt::At { start, len, next } => {
+                let k = field_index(octets::part(body, start, len));
+                if k < 11 {
+                    places[k] = start + len + 1;
+                }
+                i = next;
+            }
+            PropertyAt::Malformed => return [0; 11],
+        }
+    }
+}
+
+// The same of the object at `at`.
+fn places_at(body: &[u8], at: usize) -> [usize; 11]
+    ensures { λ r. ⌜ r ≡ fieldPlaces (now (body .entry)) (propertiesAt (drop at (now (body .entry)))) ⌝ }
+{
+    match amf0::properties_at(body, at) {
+        Found::At(start) => places_in(body, start),
+        Found::Absent => [0; 11],
+        Found::Malformed => [0; 11],
+    }
+}
+
+// The kind of the value at such a place; Malformed where there is none.
+fn kind_there(body: &[u8], place: usize) -> Kind
+    ensures { λ r. ⌜ r ≡ kindThere (now (body .entry)) place ⌝ }
+{
+    if place == 0 {
+        return Kind::Malformed;
+    }
+    amf0::kind_at(body, place - 1)
 }
 
 fn whole(kind: Kind) -> OptionU32
@@ -98,17 +171,18 @@ fn flag(kind: Kind) -> OptionBool
 pub fn read_metadata(body: &[u8], at: usize) -> StreamMetadata
     ensures { λ r. ⌜ r ≡ metadataAt (now (body .entry)) (drop at (now (body .entry))) ⌝ }
 {
-    let video_width = whole(field(body, at, b"width"));
-    let video_height = whole(field(body, at, b"height"));
-    let video_codec_id = whole(field(body, at, b"videocodecid"));
-    let video_frame_rate = rate(field(body, at, b"framerate"));
-    let video_bitrate_kbps = whole(field(body, at, b"videodatarate"));
-    let audio_codec_id = whole(field(body, at, b"audiocodecid"));
-    let audio_bitrate_kbps = whole(field(body, at, b"audiodatarate"));
-    let audio_sample_rate = whole(field(body, at, b"audiosamplerate"));
-    let audio_channels = whole(field(body, at, b"audiochannels"));
-    let audio_is_stereo = flag(field(body, at, b"stereo"));
-    let encoder = text_of(field(body, at, b"encoder"));
+    let places = places_at(body, at);
+    let video_width = whole(kind_there(body, places[0]));
+    let video_height = whole(kind_there(body, places[1]));
+    let video_codec_id = whole(kind_there(body, places[2]));
+    let video_frame_rate = rate(kind_there(body, places[3]));
+    let video_bitrate_kbps = whole(kind_there(body, places[4]));
+    let audio_codec_id = whole(kind_there(body, places[5]));
+    let audio_bitrate_kbps = whole(kind_there(body, places[6]));
+    let audio_sample_rate = whole(kind_there(body, places[7]));
+    let audio_channels = whole(kind_there(body, places[8]));
+    let audio_is_stereo = flag(kind_there(body, places[9]));
+    let encoder = text_of(kind_there(body, places[10]));
     StreamMetadata {
         video_width: video_width,
         video_height: video_height,

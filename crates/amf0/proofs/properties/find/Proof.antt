@@ -1,93 +1,28 @@
--- `amf0::properties::find` meets its contract, marker by marker.
+-- `amf0::properties::find` meets its contract: where the properties start, and then the last of that name.
 -- Assumes nothing.
-use Prim.Native.Nat.{_+_}
-use native.Mathlib.Omega.{arith}
-use mathlib.Core.Path.{_≡_, sym, ap, _∙_}
-use lib.ListN.{drop}
+use mathlib.Core.Path.{sym, _∙_}
 use borrow.Author.Needs.{needs}
-use Rattle.octets.specs.declared.big_endian.Be32.the-variants.{Is, Short}
-use Rattle.amf0.specs.Lookup.{lastOf, propertiesOf, propertiesAt}
-use Rattle.amf0.specs.Places.{foundAt, foundOf}
-use Rattle.amf0.specs.declared.marker.Marker.{Marker}
-use Rattle.amf0.specs.declared.marker.Marker.the-variants.{Number, Boolean, Text, Object, Null, Undefined, EcmaArray, StrictArray, Other}
-use Rattle.amf0.proofs.CutLaws.{clash}
-use Rattle.amf0.proofs.PlaceLaws.{UintRead, uint-read, uint-none}
-use Rattle.amf0.proofs.FindLaws.{properties-over, properties-is, ecma-short, ecma-is}
+use Rattle.amf0.proofs.FindLaws.{found-from}
 use Rattle.amf0.proofs.properties.find.Statement.{statement}
 use Rattle.amf0.proofs.properties.find.Tie as tie
 
--- what follows the marker m
-found-of : (c : tie.After-marker-of) (m : Marker) → c .marker-of .result ≡ m →
-    let a = c .before .before .before .before .before .args in
-    foundOf (a .s .now) (a .name .now) (propertiesOf m (drop (a .at + 1) (a .s .now))) ≡ foundOf (a .s .now) (a .name .now)
-    (propertiesAt (drop (a .at) (a .s .now)))
-found-of c m t =
-    let a = c .before .before .before .before .before .args in
-    sym (ap (foundOf (a .s .now) (a .name .now)) (properties-is (a .s .now) (a .at) (c .before .before .if1 .left) (c .marker-of .result)
-    (c .marker-of .ensures) m t))
-
--- the count of an ECMA array
-count-of : (c : tie.After-enum-told8) → let a = c .before .before .before .before .before .before .before .before .before .before .args in UintRead 4
-    (a .s .now) (a .at + 1) (c .enum-told8 .given .0 .0)
-count-of c = uint-read Short Is 4 _ _ _ (λ y e. cc) (λ e. clash (cc)) (sym (c .enum-told8 .given .1) ∙ c .before .before .read-be32 .ensures)
-
 returns : tie.Need-returns
-unfolding foundOf
-returns c = let a = c .before .before .before .args in rw (properties-over (a .s .now) (a .at) (c .if1 .taken))
-
-add-find-in : tie.Need-add-find-in
-add-find-in c = omega (arith, count-of c .within)
+returns c =
+    let a = c .before .before .before .before .before .before .before .args in
+    c .find-in .ensures
+    ∙ found-from (a .s .now) (a .name .now) (a .at) _ (sym (c .before .before .start .given .1) ∙ c .before .before .before .before .properties-at .ensures)
 
 returns-2 : tie.Need-returns-2
-unfolding propertiesOf foundOf foundAt lastOf
-returns-2 c = found-of (c .before .before) Number (c .enum-told .given .1)
+returns-2 c =
+    let a = c .before .before .before .before .before .args in
+    found-from (a .s .now) (a .name .now) (a .at) _ (sym (c .enum-told .given .1) ∙ c .before .before .properties-at .ensures)
 
 returns-3 : tie.Need-returns-3
-unfolding propertiesOf foundOf foundAt lastOf
-returns-3 c = found-of (c .before .before) Boolean (c .enum-told2 .given .1)
-
-returns-4 : tie.Need-returns-4
-unfolding propertiesOf foundOf foundAt lastOf
-returns-4 c = found-of (c .before .before) Text (c .enum-told3 .given .1)
-
-returns-5 : tie.Need-returns-5
-unfolding propertiesOf
-returns-5 c = c .find-in .ensures ∙ found-of (c .before .before .before) Object (c .before .enum-told4 .given .1)
-
-returns-6 : tie.Need-returns-6
-unfolding propertiesOf foundOf foundAt lastOf
-returns-6 c = found-of (c .before .before) Null (c .enum-told5 .given .1)
-
-returns-7 : tie.Need-returns-7
-unfolding propertiesOf foundOf foundAt lastOf
-returns-7 c = found-of (c .before .before) Undefined (c .enum-told6 .given .1)
-
-returns-8 : tie.Need-returns-8
-returns-8 c =
-    let a = c .before .before .before .before .before .before .before .before .before .before .before .args in
-    c .find-in2 .ensures ∙ ap (foundOf (a .s .now) (a .name .now)) (ecma-is (a .s .now) (a .at + 1) (count-of (c .before)))
-    ∙ found-of (c .before .before .before .before .before .before) EcmaArray (c .before .before .before .before .enum-told7 .given .1)
-
-returns-9 : tie.Need-returns-9
-unfolding foundOf
-returns-9 c =
-    let a = c .before .before .before .before .before .before .before .before .before .before .args in
-    let e = ecma-short (a .s .now) (a .at + 1) (uint-none Short Is _ (λ y e. clash (cc))
-    (sym (c .enum-told9 .given .1) ∙ c .before .before .read-be32 .ensures)) in
-    sym (ap (foundOf (a .s .now) (a .name .now)) e) ∙ found-of (c .before .before .before .before .before) EcmaArray
-    (c .before .before .before .enum-told7 .given .1)
-
-returns-10 : tie.Need-returns-10
-unfolding propertiesOf foundOf foundAt lastOf
-returns-10 c = found-of (c .before .before) StrictArray (c .enum-told10 .given .1)
-
-returns-11 : tie.Need-returns-11
-unfolding propertiesOf foundOf
-returns-11 c = found-of (c .before .before) Other (c .enum-told11 .given .1)
+returns-3 c =
+    let a = c .before .before .before .before .before .args in
+    found-from (a .s .now) (a .name .now) (a .at) _ (sym (c .enum-told2 .given .1) ∙ c .before .before .properties-at .ensures)
 
 pub find-spec : {M : Type 1} → statement M
 find-spec =
-    tie.close (tie.spec returns (λ c. search needs) (λ c. search needs) (λ c κs. search needs) (λ c. search needs) (λ c. search needs)
-    (λ c. search needs) (λ c. search needs) (λ c κs. search needs) (λ c. search needs) (λ c. search needs) (λ c. search needs) (λ c κs. search needs)
-    (λ c. search needs) add-find-in (λ c κs. search needs) (λ c. search needs) (λ c. search needs) (λ c. search needs) returns-2 returns-3 returns-4
-    returns-5 returns-6 returns-7 returns-8 returns-9 returns-10 returns-11)
+    tie.close
+    (tie.spec (λ c κs. search needs) (λ c. search needs) (λ c κs. search needs) (λ c. search needs) (λ c. search needs) returns returns-2 returns-3)

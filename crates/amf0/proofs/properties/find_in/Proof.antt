@@ -12,7 +12,7 @@ use Rattle.amf0.proofs.CutLaws.{cuts-value}
 use Rattle.amf0.proofs.PlaceLaws.{Read, at-read, bad-read}
 use Rattle.amf0.proofs.TextLaws.{NamePlace, name-place, name-last, no-name}
 use Rattle.amf0.proofs.ReadLaws.{object-over, object-bad, object-last, object-stop}
-use Rattle.amf0.proofs.FindLaws.{orBest, none-before, best-bad, best-last, find-hit, find-miss}
+use Rattle.amf0.proofs.FindLaws.{PropertyRead, orBest, none-before, best-bad, best-last, find-hit, find-miss}
 use Rattle.amf0.proofs.properties.find_in.Statement.{statement}
 use Rattle.amf0.proofs.properties.find_in.Tie as tie
 
@@ -39,6 +39,12 @@ value-of : (c : tie.After-known-told2 Inv-loop μ-loop) →
 value-of c =
     at-read _ _ 1 _ _ (name-of (c .before .before .before .before) .within) (cuts-value _ _)
     (sym (c .before .j .given .1) ∙ c .before .before .before .value .ensures)
+
+read : (c : tie.After-known-told2 Inv-loop μ-loop) →
+    let n = c .before .before .before .before .before .start .given .0 in
+    PropertyRead (c .before .before .before .before .before .before .before .before .before .before .before .before .args .s .now)
+    (c .before .before .before .before .before .before .before .before .before .loop .i) (n .0) (n .1 .0) (c .before .j .given .0 .0)
+read c = record { named = name-of (c .before .before .before .before); valued = value-of c }
 
 returns : tie.Need-returns Inv-loop μ-loop
 returns c =
@@ -73,8 +79,7 @@ loop-again : tie.Need-loop-again Inv-loop μ-loop
 loop-again c =
     let a = c .before .before .before .before .before .before .before .before .before .before .before .before .before .before .args in
     let v = c .before .before .before .before .before .before .before .before .before .before .before .loop in
-    v .inv ∙ find-hit (a .s .now) (a .name .now) (v .best) (v .i) (name-of (c .before .before .before .before .before .before))
-    (value-of (c .before .before)) (sym (c .before .part-is .ensures) ∙ c .if1 .taken)
+    v .inv ∙ find-hit (a .s .now) (a .name .now) (v .best) (v .i) (read (c .before .before)) (sym (c .before .part-is .ensures) ∙ c .if1 .taken)
 
 loop-less-2 : tie.Need-loop-less-2 Inv-loop μ-loop
 loop-less-2 c =
@@ -90,8 +95,7 @@ loop-again-2 : tie.Need-loop-again-2 Inv-loop μ-loop
 loop-again-2 c =
     let a = c .before .before .before .before .before .before .before .before .before .before .before .before .before .before .args in
     let v = c .before .before .before .before .before .before .before .before .before .before .before .loop in
-    v .inv ∙ find-miss (a .s .now) (a .name .now) (v .best) (v .i) (name-of (c .before .before .before .before .before .before))
-    (value-of (c .before .before)) (sym (c .before .part-is .ensures) ∙ c .if1 .left)
+    v .inv ∙ find-miss (a .s .now) (a .name .now) (v .best) (v .i) (read (c .before .before)) (sym (c .before .part-is .ensures) ∙ c .if1 .left)
 
 returns-3 : tie.Need-returns-3 Inv-loop μ-loop
 returns-3 c =
