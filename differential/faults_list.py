@@ -18,8 +18,8 @@ MISTAKES = [
      '                    return self.refused(ClientSessionError::SessionInInvalidState(state));\n                }\n'
      '                let key = found.text;\n'),
     ('a window applies to the count that brought it',
-     'session/src/client.rt', 'self.counted(link.pending, total).quiet()',
-     'self.counted(std::num::wrapping_add_u32(link.pending, count), total).quiet()'),
+     'session/src/client.rt', 'Counted(Outcome::Nothing, link.pending, total)',
+     'Counted(Outcome::Nothing, std::num::wrapping_add_u32(link.pending, count), total)'),
 ]
 
 NO_SESSION = ('session/src/record.rt', '        let requests = self.requests;\n        requests.sound()\n', '        false\n')
@@ -75,15 +75,15 @@ CALLS = [
     ('a ping carries 0', 'session/src/client.rt', 'bodies::write_ping_request(out, clock)', 'bodies::write_ping_request(out, RtmpTimestamp(0))'),
     ('a picture carries the clock', 'session/src/client.rt', 'self.publish_data(9, data, time,', 'self.publish_data(9, data, clock,'),
     ('sound goes out as a picture', 'session/src/client.rt', 'self.publish_data(8,', 'self.publish_data(9,'),
-    ('the droppable flag is lost', 'session/src/client.rt', 'self.sent(self, type_id, time, stream, droppable, wrote)',
-     'self.sent(self, type_id, time, stream, false, wrote)'),
+    ('the droppable flag is lost', 'session/src/client.rt', 'sending::outcome(type_id, time, stream, droppable, wrote)',
+     'sending::outcome(type_id, time, stream, false, wrote)'),
     ('metadata goes out at time 0', 'session/src/client.rt', 'self.sent(self, 18, clock,', 'self.sent(self, 18, RtmpTimestamp(0),'),
     ('the encoder\'s text is not tested', 'session/src/client.rt', 'sending::encoder_fits(encoder, text)', 'sending::encoder_fits(encoder, b"")'),
     ('an acknowledgement goes out only past the window', 'session/src/client.rt', 'if sum < size as u64', 'if sum <= size as u64'),
     ('the wrapped sum is compared with the window', 'session/src/client.rt', 'if sum < size as u64', 'if low < size'),
-    ('pending is kept after an acknowledgement', 'session/src/client.rt', 'self.counted(0, total),', 'self.counted(low, total),'),
+    ('pending is kept after an acknowledgement', 'session/src/client.rt', 'Counted(sent, 0, total)', 'Counted(sent, low, total)'),
     ('pending is the latest count alone',
-     'session/src/client.rt', 'return self.counted(low, total).quiet();', 'return self.counted(count, total).quiet();'),
+     'session/src/client.rt', 'Counted(Outcome::Nothing, low, total)', 'Counted(Outcome::Nothing, count, total)'),
     ('a pending count is not stored', 'session/src/record.rt:counted', '        after.link.pending = pending;\n', ''),
     ('refusal 12 keeps what the call changed', 'session/src/record.rt:sent', 'Wrote::NoSpace => self.refused(', 'Wrote::NoSpace => after.refused('),
     ('tcUrl is not tested where it is configured', 'session/src/config.rt', 'if self.has_tc_url {', 'if !self.has_tc_url {'),
