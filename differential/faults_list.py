@@ -196,6 +196,7 @@ VALUES = [
     ('depth 8 is refused', 'amf0/src/read.rt', 'value(s, i, 8)', 'value(s, i, 7)'),
     ('an ECMA array is no object', 'amf0/src/kinds.rt', 'Marker::EcmaArray => Kind::Object', 'Marker::EcmaArray => Kind::Array'),
     ('of equal names the first holds', 'amf0/src/properties.rt', 'best = Found::At(e);', 'return Found::At(e);'),
+    ('of equal metadata fields the first holds', 'messages/src/stream_metadata.rt', 'if k < 11 {', 'if k < 11 && places[k] == 0 {'),
     ('an empty name stands before any value', 'amf0/src/names.rt', '    }\n    Named::Malformed\n', '    }\n    Named::At { start, len }\n'),
     ('a text at the end of the body is malformed', 'amf0/src/names.rt', 's.len() - start < len', 's.len() - start <= len'),
     ('a peer\'s text need not be UTF-8', 'amf0/src/names.rt', '&s[start..start + len]', '&s[start..start]'),
