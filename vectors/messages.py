@@ -20,7 +20,7 @@ import os
 import random
 import struct
 
-from amf0 import DEPTH, Bad, take, uint, utf8
+from amf0_reader import DEPTH, Bad, uint, utf8
 
 # ---- AMF0: a value is (kind, what it holds, where it starts, the place after it)
 

@@ -1,13 +1,13 @@
 """The client session of document 01 as a whole: what replay.py holds each script against.
 
 Written from document 01 ("Turned-away calls", "The session's work", "Bodies") and its readings, and never from our code. Bodies that come in are read
-by messages.py and amf0.py beside this file, bodies that go out are written by bodies.py: all three are from the public papers.
+by messages.py and amf0_reader.py beside this file, bodies that go out are written by bodies.py: all three are from the public papers.
 """
 import copy
 
 import bodies
 import messages
-from amf0 import Bad
+from amf0_reader import Bad
 
 CHUNK, BODY, SPENT = 2 ** 31 - 1, 16777215, 2 ** 32
 DISCONNECTED, CONNECTED, PLAY_REQUESTED, PLAYING, PUBLISH_REQUESTED, PUBLISHING = range(6)
