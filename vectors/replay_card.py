@@ -4,7 +4,7 @@ an event's values behind its place, and after each line that writes anything a l
 After every line the session is compared with the latest-line rule, which sees the journal alone, and with the law on the sum of all acknowledgements.
 """
 import bodies
-import messages
+import message_reader
 from replay_model import (CONNECTED, DISCONNECTED, PLAY_REQUESTED, PLAY_START, PUBLISH_REQUESTED, PUBLISH_START, PUBLISHING, Refused, Session, read,
                           read_command, step, text_of)
 
@@ -26,14 +26,14 @@ class Line:
             _, name, number, arguments, *_ = read(fields[0], fields[3])
             first = arguments[0] if arguments else ('absent', None)
             if name in (b'_result', b'_error'):
-                self.reply = name, messages.held(number), messages.held(first[1]) if first[0] == 'number' else None
+                self.reply = name, message_reader.held(number), message_reader.held(first[1]) if first[0] == 'number' else None
             elif name == b'onStatus' and refused is None:
-                self.code = text_of(messages.last(first[1], b'code'))
+                self.code = text_of(message_reader.last(first[1], b'code'))
 
     def request(self):
         """The number in the command sent, and the kind and purpose asked for."""
         if self.refused is None and self.verb in ('connect', 'play', 'publish'):
-            return messages.held(read_command(self.sent[0][6], 0)[2]), self.fields[1] if self.verb == 'publish' else self.verb.encode()
+            return message_reader.held(read_command(self.sent[0][6], 0)[2]), self.fields[1] if self.verb == 'publish' else self.verb.encode()
         return None
 
     def stopped(self):

@@ -1,12 +1,12 @@
 """The client session of document 01 as a whole: what replay.py holds each script against.
 
 Written from document 01 ("Turned-away calls", "The session's work", "Bodies") and its readings, and never from our code. Bodies that come in are read
-by messages.py and amf0_reader.py beside this file, bodies that go out are written by bodies.py: all three are from the public papers.
+by message_reader.py and amf0_reader.py beside this file, bodies that go out are written by bodies.py: all three are from the public papers.
 """
 import copy
 
 import bodies
-import messages
+import message_reader
 from amf0_reader import Bad
 
 CHUNK, BODY, SPENT = 2 ** 31 - 1, 16777215, 2 ** 32
@@ -192,7 +192,7 @@ class Session:
             return self.notice(first)
         if name not in (b'_result', b'_error'):
             return [event(OTHER_COMMAND, name, bodies.word(number, 8), thing, rest)]
-        n = messages.held(number)
+        n = message_reader.held(number)
         if n not in self.open:
             return [event(UNKNOWN_REPLY, bodies.word(number, 8), thing, rest)]
         kind, text = self.open.pop(n)
@@ -202,7 +202,7 @@ class Session:
             raise Refused(4, n)
         if first[0] != 'number':
             raise Refused(5, n)
-        return self.grant(clock, kind, text, messages.held(first[1]))
+        return self.grant(clock, kind, text, message_reader.held(first[1]))
 
     def accepted(self, clock):
         self.stage = CONNECTED
@@ -219,7 +219,7 @@ class Session:
         return [out(20, clock, bodies.command(b'publish', 0, bodies.NULL, bodies.text(key), bodies.text(kind)), stream)]
 
     def notice(self, first):
-        code = text_of(messages.last(first[1], b'code')) if first[0] == 'object' else None
+        code = text_of(message_reader.last(first[1], b'code')) if first[0] == 'object' else None
         if code is None:
             raise Refused(6)
         if code not in (PLAY_START, PUBLISH_START):
@@ -236,21 +236,21 @@ def text_of(v):
 
 def description(first):
     """That of a rejected connect: empty where the first argument is no object with a text `description`."""
-    return (text_of(messages.last(first[1], b'description')) if first[0] == 'object' else None) or b''
+    return (text_of(message_reader.last(first[1], b'description')) if first[0] == 'object' else None) or b''
 
 
 def metadata_fields(properties):
     """NAME=VALUE for each field that is there, in sending order: whole fields held, the frame rate as the nearest single's pattern."""
     found = []
-    for name in messages.FIELDS:
-        kind, what = messages.last(properties, name)
+    for name in message_reader.FIELDS:
+        kind, what = message_reader.last(properties, name)
         value = None
         if name == b'stereo':
             value = '%d' % what if kind == 'boolean' else None
         elif name == b'encoder':
             value = what[2].hex() if kind == 'text' else None
         elif kind == 'number':
-            value = '%08x' % messages.single(what) if name == b'framerate' else '%d' % messages.held(what)
+            value = '%08x' % message_reader.single(what) if name == b'framerate' else '%d' % message_reader.held(what)
         if value is not None:
             found.append('%s=%s' % (name.decode(), value))
     return found
@@ -258,14 +258,14 @@ def metadata_fields(properties):
 
 def read_command(s, at):
     """Name, the Number's pattern, the arguments; and the bytes of the object and of the arguments."""
-    (kind, name), at = messages.value(s, at)
+    (kind, name), at = message_reader.value(s, at)
     if kind != 'text':
         raise Bad
-    (kind, number), at = messages.value(s, at)
+    (kind, number), at = message_reader.value(s, at)
     if kind != 'number':
         raise Bad
-    thing, at = at, messages.value(s, at)[1]
-    return 'command', name[2], number, messages.values(s, at), s[thing:at], s[at:]
+    thing, at = at, message_reader.value(s, at)[1]
+    return 'command', name[2], number, message_reader.values(s, at), s[thing:at], s[at:]
 
 
 def read_event(s):
@@ -278,7 +278,7 @@ def read_event(s):
 def read(type_id, s):
     """What a body says, by its layout; Bad where it doesn't follow it."""
     if type_id in (1, 2, 3, 5):
-        return {1: 'chunk', 2: 'unhandled', 3: 'ack', 5: 'window'}[type_id], messages.word(s)
+        return {1: 'chunk', 2: 'unhandled', 3: 'ack', 5: 'window'}[type_id], message_reader.word(s)
     if type_id == 4:
         return read_event(s)
     if type_id == 6:
@@ -288,7 +288,7 @@ def read(type_id, s):
     if type_id in (8, 9):
         return ('media',)
     if type_id in (15, 18):
-        return 'data', messages.values(s, 0)
+        return 'data', message_reader.values(s, 0)
     if type_id in (17, 20):
         return read_command(s, 1 if type_id == 17 and s[:1] == b'\0' else 0)
     return ('unhandled',)

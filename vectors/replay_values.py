@@ -2,7 +2,8 @@
 
 Each value stands beside what document 01 says of it ("The session's work", "Bodies", the latest-line rule).
 """
-from messages import FIELDS, NULL, bool_, cmd, ecma, num, obj, strict, text
+from message_reader import FIELDS
+from messages import NULL, bool_, cmd, ecma, num, obj, strict, text
 from replay_model import PUBLISH_START
 from replay_notation import (AT_CONNECTED, REPLY, STOP_PLAYBACK, STOP_PUBLISHING, at_playing, connect, control, error, msg, opening, play, publish,
                              result, script, status)
