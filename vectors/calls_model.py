@@ -241,7 +241,7 @@ def c_bytes(count=5):
 
 def step(r, call, clock, space):
     """The outcome, the output and the record after."""
-    after, body = copy.deepcopy(r), b''
+    after = copy.deepcopy(r)
     try:
         if not r.sound():
             raise Refused('13')

@@ -9,7 +9,7 @@ import struct
 
 from amf0_reader import DEPTH, Bad, uint, utf8
 
-# ---- AMF0: a value is (kind, what it holds, where it starts, the place after it)
+# ---- AMF0: a value is (kind, what it holds); `value` gives it and the place after it
 
 
 def properties(s, at, depth):
@@ -27,7 +27,6 @@ def properties(s, at, depth):
 def value(s, at, depth=1):
     if depth > DEPTH:
         raise Bad
-    start = at
     m, at = uint(s, at, 1)
     if m == 0x00:
         n, at = uint(s, at, 8)

@@ -5,8 +5,8 @@ Each value stands beside what document 01 says of it ("The session's work", "Bod
 from message_reader import FIELDS
 from messages import NULL, bool_, cmd, ecma, num, obj, strict, text
 from replay_model import PUBLISH_START
-from replay_notation import (AT_CONNECTED, REPLY, STOP_PLAYBACK, STOP_PUBLISHING, at_playing, connect, control, error, msg, opening, play, publish,
-                             result, script, status)
+from replay_notation import (REPLY, STOP_PLAYBACK, STOP_PUBLISHING, at_playing, connect, control, error, msg, opening, play, publish, result, script,
+                             status)
 
 MOST = 4294967295
 NAN, INFINITE = 0x7ff8000000000000, 0x7ff0000000000000
