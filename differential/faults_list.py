@@ -264,9 +264,9 @@ GROUPS = [
 # What neither run can show, why, and the must-fail edit by which the prover refuses it.
 ONLY_PROVED = [
     ('4,294,967,295 is not given', 'so many requests are out of reach', 'requests/must-fail/second.edit'),
-    ('refusal 10 is told before 11', 'so many requests are out of reach', 'session/must-fail/second.edit'),
-    ('refusal 9 is told before 3', 'a Publishing session without an active stream is out of reach', 'session_laws/must-fail/order_9_before_3.edit'),
-    ('refusal 8 is told before 9', 'a line has no body over 1,048,576 bytes', 'session_laws/must-fail/order_8_before_9.edit'),
+    ('refusal 10 is told before 11', 'so many requests are out of reach', 'session/must-fail/silent.edit'),
+    ('refusal 9 is told before 3', 'a Publishing session without an active stream is out of reach', 'session_laws/must-fail/sixth.edit'),
+    ('refusal 8 is told before 9', 'a line has no body over 1,048,576 bytes', 'session_laws/must-fail/second.edit'),
     ('a next number of 0 is a session\'s', 'no line makes a record', 'requests/must-fail/second.edit'),
     ('a next number past 4,294,967,296 is a session\'s', 'no line makes a record', 'requests/must-fail/first.edit'),
     ('a number in two places is a session\'s', 'no line makes a record', 'requests/must-fail/first.edit'),
