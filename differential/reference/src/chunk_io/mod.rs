@@ -1,7 +1,7 @@
 //! Stands where chunk_io stands. The session's serializer is a recorder: a packet is the message and its two flags in
 //! place of chunks. Its deserializer hands over what the harness has set. The error types are the text's.
 //! The text's own serializer and deserializer are compiled beside them, for `self_test`, with a chunk_header.rs of the
-//! harness. With `--cfg chunks` the session has the text's serializer itself, for the benchmark.
+//! harness. With `--cfg chunks` the session has those two themselves, for the benchmark.
 
 mod chunk_header;
 mod deserialization_errors;
@@ -12,11 +12,18 @@ mod serializer;
 pub use self::deserialization_errors::ChunkDeserializationError;
 pub use self::serialization_errors::ChunkSerializationError;
 #[cfg(chunks)]
-pub use self::serializer::{ChunkSerializer, Packet};
+pub use self::{
+    deserializer::ChunkDeserializer,
+    serializer::{ChunkSerializer, Packet},
+};
 
+#[cfg(not(chunks))]
 use bytes::Bytes;
+#[cfg(not(chunks))]
 use messages::{MessagePayload, RtmpMessage};
+#[cfg(not(chunks))]
 use std::collections::VecDeque;
+#[cfg(not(chunks))]
 use time::RtmpTimestamp;
 
 /// A recorded message.
@@ -66,6 +73,7 @@ impl ChunkSerializer {
     }
 }
 
+#[cfg(not(chunks))]
 pub struct ChunkDeserializer {
     /// The messages that the next calls hand over, one each.
     pub next: VecDeque<MessagePayload>,
@@ -73,6 +81,7 @@ pub struct ChunkDeserializer {
     inner: deserializer::ChunkDeserializer,
 }
 
+#[cfg(not(chunks))]
 impl ChunkDeserializer {
     pub fn new() -> ChunkDeserializer {
         ChunkDeserializer { next: VecDeque::new(), inner: deserializer::ChunkDeserializer::new() }

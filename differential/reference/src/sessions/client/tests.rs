@@ -2,6 +2,7 @@
 //! harness can read them and feed one message with the text unchanged.
 
 use super::{ClientResult, ClientSession, ClientState, OutstandingTransaction, PublishRequestType, TransactionPurpose};
+#[cfg(not(chunks))]
 use messages::MessagePayload;
 
 impl ClientSession {
@@ -31,6 +32,7 @@ impl ClientSession {
     /// The messages of one turn, but for the list of differences always one. `handle_input` runs the acknowledgement
     /// test with a count of 0, which no message should, so the window is taken away for this call; a window that the
     /// message itself sets stays.
+    #[cfg(not(chunks))]
     pub fn feed(&mut self, messages: Vec<MessagePayload>) -> ClientResult {
         let window = self.peer_window_ack_size.take();
         self.deserializer.next = messages.into();
@@ -43,6 +45,7 @@ impl ClientSession {
     }
 
     /// One message with nothing made anew for it, for the benchmark: the window must be unset.
+    #[cfg(not(chunks))]
     pub fn hand_over(&mut self, message: MessagePayload) -> ClientResult {
         self.deserializer.next.push_back(message);
         self.handle_input(&[])
