@@ -338,7 +338,7 @@ fn measure(mut case: Case) {
 }
 
 fn main() {
-    let writer = if cfg!(chunks) { "writes and reads chunks" } else { "hands the messages on" };
+    let writer = if cfg!(chunks) { "writes and reads chunks" } else { "is handed whole messages" };
     println!("the Rust {}; ns a call, median of 15 turns", writer);
     println!("{:38} {:>9} {:>9} {:>7} {:>9} {:>7}", "", "ours", "the Rust", "ratio", "copy", "ratio");
     measure(picture("picture of 0 bytes", 0, 0, true));
