@@ -1,7 +1,10 @@
 -- The calls that borrow the session. Each counts as the call whose result it stores.
 -- Assumes nothing.
 use Prim.Native.Nat.{ℕ}
+use mathlib.Core.Bool.{Bool, _||_}
 use mathlib.Core.List.{List}
+use lib.Dec.{eqb}
+use Rattle.messages.specs.Numbers.{typeNumber, audio, video}
 use Rattle.messages.specs.declared.ids.RtmpTimestamp.{RtmpTimestamp}
 use Rattle.requests.specs.declared.outstanding_transaction.OutstandingTransaction.{OutstandingTransaction}
 use Rattle.requests.specs.declared.outstanding_transaction.OutstandingTransaction.the-variants.{ConnectionRequested, CreateStream}
@@ -16,6 +19,10 @@ unfoldable pub requestCall : OutstandingTransaction → List ℕ → Call
 requestCall ConnectionRequested app = connect app
 requestCall (CreateStream PlayRequest) key = play key
 requestCall (CreateStream (PublishRequest t)) key = publish key t
+
+-- the types of sound and of a picture: messages that leave every session as it is
+abbrev pub isMedia : ℕ → Bool
+isMedia k = eqb k (typeNumber audio) || eqb k (typeNumber video)
 
 -- The contract of a borrowing call: its answer, the session stored and the lent output at exit are those of the call by value.
 abbrev pub Stores : ClientSession → RtmpTimestamp → Call → List ℕ → Outcome → ClientSession → List ℕ → Type 0

@@ -1,5 +1,5 @@
 // The calls at the top, which borrow the session and update it: each makes the call by value, stores the session that it hands back, and answers its
-// outcome.
+// outcome. A picture or sound that comes leaves the session as it is: nothing is stored then, and the record isn't copied.
 use messages::RtmpTimestamp;
 use messages::StreamNumber;
 use requests::OutstandingTransaction;
@@ -7,9 +7,10 @@ use requests::TransactionPurpose;
 use session::Called;
 use session::ClientSession;
 use session::Outcome;
+ghost use mathlib.Core.Path.{_≡_};
 ghost use Rattle.session.specs.Calls.{bytes, message};
 ghost use Rattle.session.specs.Contract.{Does};
-ghost use Rattle.borrowing.specs.Borrowed.{requestCall, Stores};
+ghost use Rattle.borrowing.specs.Borrowed.{requestCall, isMedia, Stores};
 
 // The request of that kind, by value.
 fn requested(
@@ -50,6 +51,13 @@ pub fn request(
     called.outcome
 }
 
+// Whether it is the type of a picture or of sound.
+fn is_media(type_id: u8) -> bool
+    ensures { λ r. ⌜ r ≡ isMedia «type_id» ⌝ }
+{
+    type_id == 8 || type_id == 9
+}
+
 // A message that came, with its type, its time, its stream and its whole body.
 pub fn handle_message(
     session: &mut ClientSession,
@@ -63,6 +71,9 @@ pub fn handle_message(
     ensures { λ r. ⌜ Stores (now (session .entry)) clock (message «type_id» time stream (now (body .entry))) (now (out .entry)) r (now (session .exit)) (now (out .exit)) ⌝ }
 {
     let s = *session;
+    if is_media(type_id) {
+        return s.media_outcome(type_id, time, stream, body);
+    }
     let called = s.handle_message(clock, type_id, time, stream, body, out);
     *session = called.session;
     called.outcome

@@ -6,7 +6,7 @@ use mathlib.Core.Path.{_≡_, refl, sym, _∙_}
 use mathlib.Core.Bool.{Bool, true, false}
 use mathlib.Core.List.{List, _++_}
 use native.Mathlib.Omega.{arith}
-use lib.Dec.{ltb}
+use lib.Dec.{eqb, ltb}
 use lib.ListN.{length, drop}
 use borrow.Author.Needs.{zero≤}
 use borrow.Author.Tests.{le-ltb}
@@ -14,7 +14,9 @@ use Rattle.octets.specs.Output.{Written, answer, left}
 use Rattle.octets.specs.declared.output.Wrote.{Wrote}
 use Rattle.octets.specs.declared.output.Wrote.the-variants.{Done, NoSpace}
 use Rattle.requests.proofs.BoolLaws.{by-cases}
+use Rattle.messages.specs.Incoming.{decode}
 use Rattle.messages.specs.Metadata.{metadataAt}
+use Rattle.messages.specs.Places.{placed}
 use Rattle.messages.specs.declared.ids.RtmpTimestamp.{RtmpTimestamp}
 use Rattle.messages.specs.declared.ids.StreamNumber.{StreamNumber}
 use Rattle.messages.specs.declared.on_status.OnStatus.{OnStatus}
@@ -29,12 +31,12 @@ use Rattle.session.specs.Calls.{raises, unhandled, Results, nothing, one
 use Rattle.session.specs.Outcomes.{inTurn, sentBy, bodies, output, outcomeOf}
 use Rattle.session.specs.Plan.{go, close as closing}
 use Rattle.session.specs.Step.{away as turned, fitted}
-use Rattle.session.specs.Message.{isActive, ifActive, dataIn, controlIn, noticed, commandOf, onMessage}
+use Rattle.session.specs.Message.{isActive, mediaType, ifActive, mediaIn, dataIn, controlIn, noticed, commandOf, onMessage}
 use Rattle.session.specs.Comes.{Comes, refusedWith, quiet}
 use Rattle.session.specs.declared.errors.ClientSessionError.{ClientSessionError}
 use Rattle.session.specs.declared.errors.ClientSessionError.the-variants.{Space}
 use Rattle.session.specs.declared.events.ClientSessionEvent.{ClientSessionEvent}
-use Rattle.session.specs.declared.events.ClientSessionEvent.the-variants.{StreamMetadataReceived}
+use Rattle.session.specs.declared.events.ClientSessionEvent.the-variants.{StreamMetadataReceived, VideoDataReceived, AudioDataReceived}
 use Rattle.session.specs.declared.record.Called.{Called}
 use Rattle.session.specs.declared.record.ClientSession.{ClientSession}
 use Rattle.session.specs.declared.result.ClientSessionResult.the-variants.{RaisedEvent, UnhandleableMessageReceived}
@@ -127,6 +129,20 @@ module _ {s : ClientSession} {old : List ℕ} {r : Called} where
     pub message-is : (k : ℕ) (t : RtmpTimestamp) (x : StreamNumber) {m v : RtmpMessage}
         → m ≡ v → Comes s (onMessage s clock b k t x v) old r exit → Comes s (onMessage s clock b k t x m) old r exit
     message-is k t x e h = rw e h
+
+    -- sound by its type, and else a picture
+    module _ (k : ℕ) (t : RtmpTimestamp) (x : StreamNumber) where
+      pub sound-is : eqb k 8 ≡ true
+          → Comes s (mediaIn s clock b x (AudioDataReceived t)) old r exit
+          → Comes s (onMessage s clock b (mediaType k) t x (placed b (decode (mediaType k) b))) old r exit
+      unfolding onMessage decode placed
+      sound-is e h = rw e h
+
+      pub picture-is : eqb k 8 ≡ false
+          → Comes s (mediaIn s clock b x (VideoDataReceived t)) old r exit
+          → Comes s (onMessage s clock b (mediaType k) t x (placed b (decode (mediaType k) b))) old r exit
+      unfolding onMessage decode placed
+      picture-is e h = rw e h
 
     pub control-is : {e v : UserControlEvent} → e ≡ v → Comes s (controlIn s clock b v) old r exit → Comes s (controlIn s clock b e) old r exit
     control-is e h = rw e h

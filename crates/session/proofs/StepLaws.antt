@@ -74,6 +74,11 @@ module _ {s : ClientSession} {old : List ℕ} {r : Called} where
       → fitted s old p ≡ t → r ≡ record { outcome = t .outcome; session = t .session } → exit ≡ t .output → Comes s p old r exit
   comes-to t f q e = record { answers = rw (f, q); handsBack = rw (f, q); leaves = rw (f, e) }
 
+  -- an outcome that was found before, beside the session as it was
+  pub kept : {p : Plan} {exit : List ℕ} {o : Outcome}
+      → r ≡ record { outcome = o; session = s } → Comes s p old (record { outcome = o; session = s }) exit → Comes s p old r exit
+  kept q d = rw q d
+
   -- ---- refusals in order
   pub away : {e : ClientSessionError} → r ≡ refusedWith s e → Comes s (refuse e) old r old
   unfolding fitted

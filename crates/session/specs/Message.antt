@@ -12,7 +12,7 @@ use Rattle.amf0.specs.Lookup.{propertiesAt}
 use Rattle.amf0.specs.Places.{textOfProperty}
 use Rattle.messages.specs.Notice.{codeAt}
 use Rattle.messages.specs.Metadata.{metadataAt}
-use Rattle.messages.specs.Numbers.{typeNumber, setChunkSize, userControl, windowSize, amf0Command}
+use Rattle.messages.specs.Numbers.{typeNumber, setChunkSize, userControl, windowSize, audio, video, amf0Command}
 use Rattle.messages.specs.declared.ids.RtmpTimestamp.{RtmpTimestamp}
 use Rattle.messages.specs.declared.ids.StreamNumber.{StreamNumber}
 use Rattle.messages.specs.declared.on_status.OnStatus.{OnStatus}
@@ -71,6 +71,10 @@ isPublishRequested Publishing = false
 abbrev pub isActive : ActiveStream → StreamNumber → Bool
 isActive active.None x = false
 isActive (active.Some a) x = eqb (a .0) (x .0)
+
+-- sound's type where it is that, and else a picture's
+abbrev pub mediaType : ℕ → ℕ
+mediaType k = cond (eqb k (typeNumber audio)) (typeNumber audio) (typeNumber video)
 
 -- a reply that no open request waits for: raw number, object and arguments; a command that the session doesn't read
 abbrev pub unknownReply : Command → ClientSessionEvent

@@ -6,6 +6,8 @@ use crate::record::Called;
 use crate::record::ClientSession;
 use crate::record::Link;
 use crate::record::PeerWindow;
+use crate::result::ClientSessionResult;
+use crate::result::Outcome;
 use crate::stages;
 use messages::Command;
 use messages::CommandName;
@@ -20,7 +22,7 @@ ghost use mathlib.Core.List.{List};
 ghost use Prim.Native.Nat.{ℕ};
 ghost use Rattle.session.specs.Record.{isSession};
 ghost use Rattle.session.specs.Calls.{message as messageCall};
-ghost use Rattle.session.specs.Message.{isActive, ifActive, mediaIn, dataIn, controlIn, windowIn, chunkIn, commandOf, onMessage};
+ghost use Rattle.session.specs.Message.{isActive, mediaType, ifActive, mediaIn, dataIn, controlIn, windowIn, chunkIn, commandOf, onMessage};
 ghost use Rattle.session.specs.Comes.{Comes};
 ghost use Rattle.session.specs.Contract.{Does};
 
@@ -46,16 +48,28 @@ impl ClientSession {
         self.quiet()
     }
 
-    // Pictures and sound.
-    fn handle_media_data(self, stream: StreamNumber, event: ClientSessionEvent) -> Called
-        ensures { λ r. ⌜ ((clock : RtmpTimestamp) (b old : List ℕ) → Comes self (mediaIn self clock b stream event) old r old) ⌝ }
+    // What a picture or sound comes to, by stage and stream. Neither changes the session.
+    fn media_answer(self, stream: StreamNumber, event: ClientSessionEvent) -> Outcome
+        ensures { λ r. ⌜ ((clock : RtmpTimestamp) (b old : List ℕ) → Comes self (mediaIn self clock b stream event) old (record { outcome = r; session = self }) old) ⌝ }
     {
         let progress = self.progress;
         let state = progress.state;
         if !stages::is_play(state) {
-            return self.refused(ClientSessionError::SessionInInvalidState(state));
+            return Outcome::Refused(ClientSessionError::SessionInInvalidState(state));
         }
-        self.if_active(stream, event)
+        let active = progress.active;
+        if is_active(active, stream) {
+            return Outcome::One(ClientSessionResult::RaisedEvent(event));
+        }
+        Outcome::Nothing
+    }
+
+    // Pictures and sound.
+    fn handle_media_data(self, stream: StreamNumber, event: ClientSessionEvent) -> Called
+        ensures { λ r. ⌜ ((clock : RtmpTimestamp) (b old : List ℕ) → Comes self (mediaIn self clock b stream event) old r old) ⌝ }
+    {
+        let outcome = self.media_answer(stream, event);
+        self.with_outcome(outcome)
     }
 
     // Values: a stream's metadata, or others, which come to nothing.
@@ -202,6 +216,28 @@ impl ClientSession {
             RtmpMessage::UserControl(event) => self.handle_user_control(clock, event, out),
             RtmpMessage::WindowAcknowledgement(size) => self.handle_window_ack_size(size),
         }
+    }
+
+    // The outcome of a picture or of sound that came: sound if its type is 8, else a picture. The session stays as it is.
+    pub fn media_outcome(
+        self,
+        type_id: u8,
+        time: RtmpTimestamp,
+        stream: StreamNumber,
+        body: &[u8],
+    ) -> Outcome
+        ensures { λ r. ⌜ ((clock : RtmpTimestamp) (old : List ℕ) → Does self clock (messageCall (mediaType «type_id») time stream (now (body .entry))) old (record { outcome = r; session = self }) old) ⌝ }
+    {
+        if !self.is_session() {
+            return Outcome::Refused(ClientSessionError::NotASession);
+        }
+        if 16777215 < body.len() {
+            return Outcome::Refused(ClientSessionError::Length);
+        }
+        if type_id == 8 {
+            return self.media_answer(stream, ClientSessionEvent::AudioDataReceived(time));
+        }
+        self.media_answer(stream, ClientSessionEvent::VideoDataReceived(time))
     }
 
     // A message that came, with its type, its time, its stream and its whole body.

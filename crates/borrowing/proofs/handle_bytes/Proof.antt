@@ -28,7 +28,7 @@ use Rattle.borrowing.proofs.handle_bytes.Code as code
 
 -- its code
 abbrev function : Fn
-function = borrowing-code (timestamp′.mir ∷ tyInt w32 ∷ []) 1 #callee
+function = borrowing-code (timestamp′.mir ∷ tyInt w32 ∷ []) 1 [] (λ rest. rest) #callee
 
 is-function : code.function ≡ function
 is-function = refl

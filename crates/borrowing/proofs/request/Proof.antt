@@ -32,7 +32,7 @@ use Rattle.borrowing.proofs.request.Code as code
 
 -- its code
 abbrev function : Fn
-function = borrowing-code (timestamp′.mir ∷ transaction′.mir ∷ slice (named 1) imm ∷ []) 2 #callee
+function = borrowing-code (timestamp′.mir ∷ transaction′.mir ∷ slice (named 1) imm ∷ []) 2 [] (λ rest. rest) #callee
 
 is-function : code.function ≡ function
 is-function = refl
