@@ -145,3 +145,15 @@ pub fn counted(outcome: Outcome, out: &[u8]) -> u64 {
         _ => 1000000000000,
     }
 }
+
+// A sum and the same of an outcome, for messages that raise an event or nothing.
+pub fn raised(before: u64, outcome: Outcome) -> u64 {
+    match outcome {
+        Outcome::Nothing => before,
+        Outcome::One(r) => match r {
+            ClientSessionResult::RaisedEvent(e) => sum(before, event(e)),
+            _ => sum(before, 1),
+        },
+        _ => sum(before, 1000000000000),
+    }
+}

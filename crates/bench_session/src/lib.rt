@@ -127,6 +127,35 @@ pub extern "C" fn bench_message(
     sum
 }
 
+// Messages come in, each on the session that is lent to the call. A picture and sound write nothing, so the output has no bytes.
+fn lent(mut session: ClientSession, rounds: u32, type_id: u8, body: &[u8]) -> u64 {
+    let mut out = [0u8; 0];
+    let mut sum: u64 = 0;
+    let mut i: u32 = 0;
+    while i < rounds {
+        let time = RtmpTimestamp(i);
+        let outcome = borrowing::handle_message(
+            &mut session,
+            time,
+            type_id,
+            time,
+            StreamNumber(1),
+            body,
+            &mut out,
+        );
+        sum = answers::raised(sum, outcome);
+        i += 1;
+    }
+    sum
+}
+
+// The same, lent.
+#[no_mangle]
+pub extern "C" fn bench_lent(rounds: u32, open: u8, number: u8, type_id: u8, body: &[u8]) -> u64 {
+    let session = at_stage(number, open);
+    lent(session, rounds, type_id, body)
+}
+
 // Counts of bytes come in.
 #[no_mangle]
 pub extern "C" fn bench_bytes(
