@@ -23,6 +23,7 @@ extern "C" {
     fn bench_picture(rounds: u32, open: u8, data: *const u8, n: usize, out: *mut u8, m: usize) -> u64;
     fn bench_sound(rounds: u32, open: u8, data: *const u8, n: usize, out: *mut u8, m: usize) -> u64;
     fn bench_message(rounds: u32, open: u8, stage: u8, type_id: u8, body: *const u8, n: usize, out: *mut u8, m: usize) -> u64;
+    fn bench_lent(rounds: u32, open: u8, stage: u8, type_id: u8, body: *const u8, n: usize) -> u64;
     fn bench_bytes(rounds: u32, open: u8, window: u32, count: u32, out: *mut u8, m: usize) -> u64;
     fn bench_connect(rounds: u32, open: u8, app: *const u8, n: usize, reply: *const u8, k: usize, out: *mut u8, m: usize) -> u64;
     fn syscall(number: i64, ...) -> i64;
@@ -255,6 +256,17 @@ fn incoming(name: &'static str, stage: u8, state: ClientState, type_id: u8, body
     Case { name, copied: Some(size), ours: Box::new(ours), theirs: Box::new(theirs) }
 }
 
+// A picture that comes, with our session lent to the call, as the Rust's is. The stage stays as it is.
+fn lent(name: &'static str, size: usize) -> Case {
+    let body = vec![7u8; size];
+    let mut incoming = Incoming::new(9, 1, body.clone());
+    let ours = move |rounds| unsafe { bench_lent(rounds, 0, 3, 9, body.as_ptr(), body.len()) };
+    let mut session = opened(0);
+    session.put_at(ClientState::Playing, Some(1));
+    let theirs = move |rounds| (0..rounds).fold(0u64, |sum, i| sum.wrapping_add(several(incoming.arrive(&mut session, i))));
+    Case { name, copied: Some(size), ours: Box::new(ours), theirs: Box::new(theirs) }
+}
+
 // A window of 2,500,000 bytes: an acknowledgement goes out at every 1713th count. The bytes are counted alone, which the Rust does only where it
 // reads no chunks.
 fn counts(name: &'static str) -> Case {
@@ -350,7 +362,8 @@ fn main() {
     measure(incoming("_result to no request", 1, ClientState::Connected, 20, reply(77.0)));
     measure(incoming("onStatus, NetStream.Publish.Start", 4, ClientState::PublishRequested, 20, start()));
     measure(incoming("onMetaData with eleven fields", 3, ClientState::Playing, 18, metadata()));
-    measure(incoming("video in of 4 KiB", 3, ClientState::Playing, 9, vec![7; 4096]));
+    measure(lent("video in of 4 KiB", 4096));
+    measure(incoming("video in of 4 KiB, by value", 3, ClientState::Playing, 9, vec![7; 4096]));
     if !cfg!(chunks) {
         measure(counts("byte count"));
     }

@@ -3,3 +3,4 @@
 pub mod Walk
 pub mod Stored
 pub mod RequestLaws
+pub mod MediaLaws

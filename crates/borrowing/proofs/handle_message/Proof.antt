@@ -1,21 +1,7 @@
 -- `borrowing::handle_message` meets its contract: what the method does is stored (`Stored.antt`). Of a picture or sound the session's cell is left as it is,
 -- and the output's last list is the one that was passed.
 -- Assumes nothing.
-use mathlib.Core.Path.{ap, _∙_}
-use mathlib.Core.Bool.{Bool, true, false}
-use lib.Dec.{T as Holds, eqb}
-use borrow.Author.Tests.{eqb-true}
-use mir.Syntax.{Ty, tyBool, tyRef, erased, mut, place, seq, cond, call, return, skip}
-use base.Fml.{fres}
-use prog.Wp.{Env}
-use types.Kit.{atRet, use0}
-use types.Run.{first, branches, skips, exec, returns-within, free1}
-use denote.Memory.{pointee}
-use denote.Plain.{Boolean, bool-lawful}
-use denote.Slice.{codedHoleys, heres, res-finally}
-use denote.Steps.{only}
 use denote.Struct.Laws as struct
-use Rattle.requests.proofs.BoolLaws.{by-cases}
 use Rattle.messages.specs.declared.ids.RtmpTimestamp.{RtmpTimestamp}
 use Rattle.messages.specs.declared.ids.StreamNumber.{StreamNumber}
 use Rattle.messages.proofs.ids.RtmpTimestamp as timestamp
@@ -23,8 +9,8 @@ use Rattle.messages.proofs.ids.RtmpTimestamp.Laws as timestamp′
 use Rattle.messages.proofs.ids.StreamNumber as number
 use Rattle.messages.proofs.ids.StreamNumber.Laws as number′
 use Rattle.session.specs.Calls.{message}
-use Rattle.session.specs.Message.{mediaType}
 use Rattle.session.specs.Contract.{Does}
+use Rattle.session.specs.Message.{mediaType}
 use Rattle.session.specs.declared.record.Called.{Called}
 use Rattle.session.specs.declared.record.ClientSession.{ClientSession}
 use Rattle.session.specs.declared.result.Outcome.{Outcome}
@@ -33,7 +19,6 @@ use Rattle.session.proofs.record.ClientSession as session
 use Rattle.session.proofs.record.ClientSession.Laws as session′
 use Rattle.session.proofs.result.Outcome as outcome
 use Rattle.session.proofs.result.Outcome.Laws as outcome′
-use Rattle.borrowing.specs.Borrowed.{isMedia}
 use Rattle.session.proofs.record.ClientSession.handle_message as callee
 use Rattle.session.proofs.record.ClientSession.handle_message.Symbol as callee-def
 use Rattle.session.proofs.record.ClientSession.handle_message.Symbol.{name as #callee}
@@ -42,15 +27,17 @@ use Rattle.session.proofs.record.ClientSession.media_outcome as media
 use Rattle.session.proofs.record.ClientSession.media_outcome.Symbol as media-def
 use Rattle.session.proofs.record.ClientSession.media_outcome.Symbol.{name as #media}
 use Rattle.session.proofs.record.ClientSession.media_outcome.Met as media-thm
+use Rattle.borrowing.specs.Borrowed.{isMedia}
 use Rattle.borrowing.proofs.is_media as is-media
 use Rattle.borrowing.proofs.is_media.Symbol as is-media-def
 use Rattle.borrowing.proofs.is_media.Symbol.{name as #is-media}
 use Rattle.borrowing.proofs.is_media.Met as is-media-thm
-use Rattle.borrowing.proofs.Walk.{ℕ, refl, _≡_, sym, subst, List, [], _∷_, length, URA, fullShare, Fn, named, imm, tyInt, w8, Val, vint, vptr}
-use Rattle.borrowing.proofs.Walk.{SProp, ent, emp, via, fst∗, id⊢, GName, ftrue, fat, flft, fobs, fbor, Memory, Routine, Heap, Calls, Loops, WpFn, Tables, Atoms, Fun, givenOf, tables, tablesOf, Lfts, Shares, AllOutlive, Body, FmC, fmOf, WpFn-mono}
-use Rattle.borrowing.proofs.Walk.{Given, Item, ‵, raw, _⊛_, ⋆, _$_, _∵_, !, qed, by, move, keep, drop, use1, use2, split, join, rewrite, fsplit, fsplit3, fjoin, fjoin3, feqL, feqI, suffices, frame, done}
-use Rattle.borrowing.proofs.Walk.{look, look-raw, init, store-raw, stop, hop, fld, from, load, addr, of-opd, and-then, no-more, assigns, land, returns, enter, alloc1, alloc0, params1, pass1, pass0, free0, agg, whole, sub, look-in}
-use Rattle.borrowing.proofs.Walk.{owns, mem, Is, uint-makes, uint-lawful, uint-vals, uint-tells, u8, RefT, MutRef, ptr-vals, mut-tells, MutSlice, Room, finally, slice-vals, mut-slice-tells, ShrSlice, shr-slice-tells, shr-slice-lawful, shr-slice-copy, opens, closes, nothing, owned, onEntry, Meets, tripleOf, Contract, Triple, calls-at, lasts, entered, cited, says, Stays, stay-ref, stay-none, gave-slice, walkOf, goes-ref, goes-none, goes-gave-slice, Walks, ends-at, walked, walk-meets, stay-none-slice, goes-none-slice, yes, plain}
+use Rattle.borrowing.proofs.Walk.{ℕ, refl, _≡_, ap, sym, subst, List, [], _∷_, length, URA, fullShare, Fn, Ty, named, erased, imm, mut, tyInt, tyBool, tyRef, w8, place, seq, cond, call, return, skip, Val, vint, vptr}
+use Rattle.borrowing.proofs.Walk.{SProp, ent, emp, via, fst∗, id⊢, GName, ftrue, fat, flft, fobs, fbor, fres, Memory, Routine, Heap, Env, Calls, Loops, WpFn, Tables, Atoms, Fun, givenOf, tables, tablesOf, Lfts, Shares, AllOutlive, Body, FmC, fmOf, WpFn-mono}
+use Rattle.borrowing.proofs.Walk.{Given, Item, ‵, raw, _⊛_, ⋆, _$_, _∵_, !, qed, by, atRet, move, keep, drop, use0, use1, use2, split, join, rewrite, fsplit, fsplit3, fjoin, fjoin3, feqL, feqI, suffices, frame, done}
+use Rattle.borrowing.proofs.Walk.{look, look-raw, init, store-raw, stop, hop, fld, from, load, addr, of-opd, and-then, no-more, assigns, land, first, branches, skips, exec, returns, returns-within, enter, alloc1, alloc0, params1, pass1, pass0, free1, free0, agg, whole, sub, look-in}
+use Rattle.borrowing.proofs.Walk.{owns, mem, pointee, Is, Boolean, bool-lawful, uint-makes, uint-lawful, uint-vals, uint-tells, u8, RefT, MutRef, ptr-vals, mut-tells, MutSlice, Room, finally, codedHoleys, heres, res-finally, slice-vals, mut-slice-tells, ShrSlice, shr-slice-tells, shr-slice-lawful, shr-slice-copy, only, opens, closes, nothing, owned, onEntry, Meets, tripleOf, Contract, Triple, calls-at, lasts, entered, cited, says, Stays, stay-ref, stay-none, gave-slice, walkOf, goes-ref, goes-none, goes-gave-slice, Walks, ends-at, walked, walk-meets, stay-none-slice, goes-none-slice, yes, plain}
+use Rattle.borrowing.proofs.MediaLaws.{own-type}
 use Rattle.borrowing.proofs.Stored.{borrowing-code, storing, read, slice, slice-of, session-typed, outcome-typed, called-typed, time-typed, own-session, own-outcome, own-time, one-val, handed, hands, answer, answered, outcome-at, session-at, outcome-of, session-of, gone}
 use Rattle.borrowing.proofs.handle_message as this
 use Rattle.borrowing.proofs.handle_message.Key.{name as #this}
@@ -70,14 +57,6 @@ is-function = refl
 -- what it has of each parameter at its end
 abbrev stayed : Stays (this.ended .signature .params) (this.ended .kept)
 stayed = (stay-ref (0 ∷ []) tt (plain (λ _. session.the-row)), (stay-none (λ _. timestamp.the-row) yes, (stay-none (λ _. u8) yes, (stay-none (λ _. timestamp.the-row) yes, (stay-none (λ _. number.the-row) yes, (stay-none-slice (1 ∷ []) tt (plain (λ _. u8)) yes, (gave-slice (2 ∷ []) tt (plain (λ _. u8)), tt)))))))
-
--- a type that is sound's or a picture's is the one that `media_outcome` answers for
-own-type : (k : ℕ) (t : Bool) → t ≡ isMedia k → Holds t → mediaType k ≡ k
-own-type k false e on = absurd on
-own-type k true e on =
-    by-cases (eqb k 8)
-    (λ y. rw y (sym (eqb-true k 8 y)))
-    (λ n. let z : eqb k 9 ≡ true = rw n at (sym e) in rw n (sym (eqb-true k 9 z)))
 
 -- the callees' contracts, which are all that the proof knows of them
 module _ {M : Type 1} (𝓤 : URA M) (H : Heap 𝓤) (A : Atoms 𝓤) (mem : Memory → SProp 𝓤) (run : Routine → Fun 𝓤) where
@@ -197,30 +176,30 @@ module _ {M : Type 1} (𝓤 : URA M) (H : Heap 𝓤) (A : Atoms 𝓤) (W : Given
         -- the session's borrow is opened
         move ! (27 ∷ []) $ fsplit ! $ fsplit3 ! $ drop ! $ move ! (29 ∷ []) $ split ! $ move ! (2 ∷ 3 ∷ 0 ∷ []) $
         opens ! tt session.the-row {h = h} b o (λ vs. one-val ! h vs b o (λ v is-v.
-        -- [the session's cell; the open borrow; obs; auth; the callee's tokens; what the other arguments own; _12; …; … _1; …; room for _0; …]
-        assigns ! (of-opd ! (load ! (from ! (hop ! (look ! 28 refl) (stop !))) (look-raw ! 0 refl))) (from ! (stop !)) (init ! 14 refl (session-typed 𝓤 H A W h v is-v)) $
-        use0 W (raw (IsMedia 𝓤 H A at-mem run .pre to-test)) asked-test $
-        calls-at ! fm (IsMedia 𝓤 H A at-mem run) known-test to-test (and-then ! (load ! (from ! (stop !)) (look ! 25 refl)) (no-more !)) (λ u.
-        use1 W (handed (‵ ftrue) Boolean u (lasts is-media.ended tt (type-id, tt)) (λ t zs. t ≡ isMedia type-id)) (id⊢ 𝓤 _) $
-        hands ! tt (‵ ftrue) Boolean u (lasts is-media.ended tt (type-id, tt)) (λ t zs. t ≡ isMedia type-id) (λ t zs is-t told.
-        drop ! $ drop ! $
-        land ! (from ! (stop !)) (init ! 10 refl (bool-lawful 𝓤 H A W .typed t (u ∷ []) is-t .0)) $
-        rewrite ! 10 (λ (w : Val). ‵ (fat fullShare tyBool l10 0 w)) (ap only is-t) refl $
-        first ! $ branches ! (load ! (from ! (stop !)) (look ! 10 refl))
-        (λ on.
-        -- a picture or sound: the call is passed the body, and what says the output's last list is had from its own borrow
-        move ! (4 ∷ []) $ split ! $ move ! (6 ∷ []) $
+        -- of what the other arguments own, the body's is had twice and `out`'s is kept; the rest is had for nothing
+        move ! (5 ∷ []) $
         fsplit ! $ drop ! $
         fsplit ! $ drop ! $
         fsplit ! $ drop ! $
         fsplit ! $ drop ! $
         fsplit ! $ use1 W (‵ (ShrSlice (named 1) (κs .1 .0) u8 .own body (slice-of body ∷ [])) ⊛ ‵ (ShrSlice (named 1) (κs .1 .0) u8 .own body (slice-of body ∷ []))) (shr-slice-copy 𝓤 H A W (named 1) (κs .1 .0) u8 .twice body (slice-of body ∷ [])) $ split ! $
+        -- [the body; the body; `out`; the session's cell; the open borrow; obs; auth; the callee's tokens; _12; …; … _1; …; room for _0; …]
+        assigns ! (of-opd ! (load ! (from ! (hop ! (look ! 30 refl) (stop !))) (look-raw ! 3 refl))) (from ! (stop !)) (init ! 16 refl (session-typed 𝓤 H A W h v is-v)) $
+        use0 W (raw (IsMedia 𝓤 H A at-mem run .pre to-test)) asked-test $
+        calls-at ! fm (IsMedia 𝓤 H A at-mem run) known-test to-test (and-then ! (load ! (from ! (stop !)) (look ! 27 refl)) (no-more !)) (λ u.
+        use1 W (handed (‵ ftrue) Boolean u (lasts is-media.ended tt (type-id, tt)) (λ t zs. t ≡ isMedia type-id)) (id⊢ 𝓤 _) $
+        hands ! tt (‵ ftrue) Boolean u (lasts is-media.ended tt (type-id, tt)) (λ t zs. t ≡ isMedia type-id) (λ t zs is-t told.
+        drop ! $ drop ! $
+        land ! (from ! (stop !)) (init ! 12 refl (bool-lawful 𝓤 H A W .typed t (u ∷ []) is-t .0)) $
+        rewrite ! 12 (λ (w : Val). ‵ (fat fullShare tyBool l10 0 w)) (ap only is-t) refl $
+        first ! $ branches ! (load ! (from ! (stop !)) (look ! 12 refl))
+        (λ on.
+        -- a picture or sound: the callee is passed the body; what says `out`'s last list is had from its own borrow
         nothing ! $ move ! (1 ∷ 0 ∷ []) $ fjoin ! $
         owned ! number.the-row (Is number.the-row) (struct.makes number.the-type number′.the-plain 𝓤 H A) stream (v-stream ∷ []) is-stream $ fjoin ! $
         own-time ! time v-time is-time $ fjoin ! $
         owned ! u8 (Is u8) (uint-makes 𝓤 H A W w8) type-id (vint w8 type-id ∷ []) is-type-id $ fjoin ! $
-        own-session ! h v is-v $ fjoin ! $
-        nothing ! $ move ! (4 ∷ 0 ∷ []) $ join ! $
+        own-session ! h v is-v $ fjoin ! $ move ! (7 ∷ []) $ split ! $ nothing ! $ move ! (1 ∷ 0 ∷ []) $ join ! $ move ! (0 ∷ 2 ∷ []) $
         use2 W (raw (Media 𝓤 H A at-mem run .pre (to-media v))) (asked-media v) $
         calls-at ! fm (Media 𝓤 H A at-mem run) known-media (to-media v)
         (and-then ! (load ! (from ! (stop !)) (look ! 16 refl)) (and-then ! (load ! (from ! (stop !)) (look ! 26 refl)) (and-then ! (load ! (from ! (stop !)) (look ! 24 refl)) (and-then ! (load ! (from ! (stop !)) (look ! 22 refl)) (and-then ! (load ! (from ! (stop !)) (look ! 20 refl)) (no-more !)))))) (λ w.
@@ -228,8 +207,8 @@ module _ {M : Type 1} (𝓤 : URA M) (H : Heap 𝓤) (A : Atoms 𝓤) (W : Given
         hands ! tt token outcome.the-row w (lasts media.ended (κs .1 .0, tt) shown) (λ r zs. Answers r) (λ r zs is-r e.
         drop ! $
         land ! (from ! (stop !)) (init ! 32 refl (outcome-typed 𝓤 H A W r w is-r)) $
-        split ! $ move ! (1 ∷ []) $ drop ! $ move ! (0 ∷ 3 ∷ []) $ join ! $
-        -- [the tokens; the body; what is left of the arguments; the session's cell; the open borrow; obs; auth; _12; …]
+        split ! $ move ! (1 ∷ []) $ drop ! $ join ! $
+        -- [the tokens; the body; `out`; the session's cell; the open borrow; obs; auth; _12; …]
         move ! (2 ∷ []) $ fsplit ! $ fsplit ! $ drop ! $ fsplit ! $
         use1 W (‵ (fres (out .name) (codedHoleys u8 .code (heres u8 (out .now))))) (W .names .obs-res (out .name) (codedHoleys u8 .code (heres u8 (out .now)))) $
         use1 W (‵ (finally u8 (out .name) (out .now))) (res-finally 𝓤 H A W (named 2) (κs .1 .1 .0) u8 (out .name) (out .now)) $
@@ -242,16 +221,10 @@ module _ {M : Type 1} (𝓤 : URA M) (H : Heap 𝓤) (A : Atoms 𝓤) (W : Given
         by ! (exits (record { outcome = r; session = h }) w (out .now) is-r (subst (λ (k : ℕ). Does h clock (message k time stream (body .now)) (out .now) (record { outcome = r; session = h }) (out .now)) (own-type type-id t told on) (e clock (out .now))) refl))))
         (λ off.
         skips ! $ exec ! C Λ (env l0 l1 l2 l3 l4 l5 l6 l7 l8 l9 l10 l11 l12) (storing 7 8 between #callee) (atRet (env l0 l1 l2 l3 l4 l5 l6 l7 l8 l9 l10 l11 l12) Post) $
-        assigns ! (addr ! (from ! (fld ! refl (hop ! (look-in ! 16 (sub ! 0 refl (whole !))) (stop !))))) (from ! (stop !)) (init ! 8 refl (tt, tt)) $
-        assigns ! (agg ! (and-then ! (load ! (from ! (stop !)) (look ! 8 refl)) (and-then ! (load ! (from ! (fld ! refl (stop !))) (look-in ! 16 (sub ! 1 refl (whole !)))) (no-more !)))) (from ! (stop !)) (init ! 6 refl (tt, (tt, (record { fits = room .0 }, tt)))) $
+        assigns ! (addr ! (from ! (fld ! refl (hop ! (look-in ! 18 (sub ! 0 refl (whole !))) (stop !))))) (from ! (stop !)) (init ! 10 refl (tt, tt)) $
+        assigns ! (agg ! (and-then ! (load ! (from ! (stop !)) (look ! 10 refl)) (and-then ! (load ! (from ! (fld ! refl (stop !))) (look-in ! 18 (sub ! 1 refl (whole !)))) (no-more !)))) (from ! (stop !)) (init ! 8 refl (tt, (tt, (record { fits = room .0 }, tt)))) $
         -- the call: what it asks is what the arguments own, with the session in front
-        move ! (5 ∷ []) $
-        fsplit ! $ drop ! $
-        fsplit ! $ drop ! $
-        fsplit ! $ drop ! $
-        fsplit ! $ drop ! $
-        fsplit ! $ use1 W (‵ (ShrSlice (named 1) (κs .1 .0) u8 .own body (slice-of body ∷ [])) ⊛ ‵ (ShrSlice (named 1) (κs .1 .0) u8 .own body (slice-of body ∷ []))) (shr-slice-copy 𝓤 H A W (named 1) (κs .1 .0) u8 .twice body (slice-of body ∷ [])) $ split ! $ move ! (2 ∷ []) $
-        move ! (1 ∷ 0 ∷ []) $ fjoin ! $
+        move ! (0 ∷ 2 ∷ []) $ fjoin ! $
         owned ! number.the-row (Is number.the-row) (struct.makes number.the-type number′.the-plain 𝓤 H A) stream (v-stream ∷ []) is-stream $ fjoin ! $
         own-time ! time v-time is-time $ fjoin ! $
         owned ! u8 (Is u8) (uint-makes 𝓤 H A W w8) type-id (vint w8 type-id ∷ []) is-type-id $ fjoin ! $
