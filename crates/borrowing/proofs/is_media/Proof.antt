@@ -1,6 +1,5 @@
 -- `borrowing::is_media` meets its contract: sound, or else a picture.
 -- Assumes nothing.
-use borrow.Author.Needs.{needs}
 use borrow.Author.Tests.{eq-eqb, ne-eqb}
 use Rattle.borrowing.proofs.is_media.Statement.{statement}
 use Rattle.borrowing.proofs.is_media.Tie as tie
