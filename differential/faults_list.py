@@ -22,7 +22,8 @@ MISTAKES = [
      'Counted(Outcome::Nothing, std::num::wrapping_add_u32(link.pending, count), total)'),
 ]
 
-NO_SESSION = ('session/src/record.rt', '        let requests = self.requests;\n        requests.sound()\n', '        false\n')
+NO_SESSION = ('session/src/record.rt', '        let requests = self.requests;\n        requests.sound()\n', '        false\n',
+              'session/src/record.rt', '        requests::all_free(places)\n', '        false\n')
 
 WORTHLESS = [
     ('sends nothing, session kept', *NO_SESSION,

@@ -8,6 +8,7 @@ pub use outstanding_transaction::OutstandingTransaction;
 pub use outstanding_transaction::TransactionPurpose;
 pub use place::Place;
 pub use place::Slot;
+pub use place::all_free;
 pub use table::CloseAnswer;
 pub use table::Closed;
 pub use table::Requests;

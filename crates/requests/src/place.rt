@@ -185,7 +185,8 @@ fn each_sound(places: [Place; 8], next: u64) -> bool
     true
 }
 
-fn all_free(places: [Place; 8]) -> bool
+// Whether no request is open.
+pub fn all_free(places: [Place; 8]) -> bool
     ensures { λ r. ⌜ r ≡ allFree places ⌝ }
 {
     let mut i: usize = 0;

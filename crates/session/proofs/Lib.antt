@@ -6,3 +6,4 @@ pub mod CallLaws
 pub mod Runs
 pub mod MessageLaws
 pub mod ReplyLaws
+pub mod PlainLaws

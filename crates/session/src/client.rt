@@ -323,9 +323,11 @@ impl ClientSession {
         ensures { λ r. ⌜ Does self clock (bytes count) (now (out .entry)) (record { outcome = r .0; session = withCounts self (r .1) (r .2) }) (now (out .exit)) ⌝ }
     {
         let link = self.link;
-        if !self.is_session() {
-            let away = Outcome::Refused(ClientSessionError::NotASession);
-            return Counted(away, link.pending, link.total);
+        if !self.is_plain() {
+            if !self.is_session() {
+                let away = Outcome::Refused(ClientSessionError::NotASession);
+                return Counted(away, link.pending, link.total);
+            }
         }
         let window = link.window;
         let total = std::num::wrapping_add_u64(link.total, count as u64);

@@ -1,6 +1,8 @@
 // The settings of a session.
 use requests::Text;
 ghost use mathlib.Core.Path.{_≡_};
+ghost use mathlib.Core.Bool.{true};
+ghost use Rattle.requests.specs.Texts.{textSound};
 ghost use Rattle.session.specs.Record.{defaultConfig, textsSound};
 
 // tc_url counts only where has_tc_url says that one is configured; it may be empty.
@@ -11,6 +13,24 @@ pub struct ClientSessionConfig {
     pub chunk_size: u32,
     pub has_tc_url: bool,
     pub tc_url: Text,
+}
+
+// Whether the text is plainly sound: it has at most sixteen bytes, and the sixteen that lie there are below 80. No array is copied for that.
+pub(crate) fn is_short(text: Text) -> bool
+    ensures { λ r. ⌜ (r ≡ true → textSound text ≡ true) ⌝ }
+{
+    if 16 < text.len {
+        return false;
+    }
+    let bytes = text.bytes;
+    let mut i: usize = 0;
+    while i < 16 {
+        if 0x7f < bytes[i] {
+            return false;
+        }
+        i += 1;
+    }
+    true
 }
 
 impl ClientSessionConfig {

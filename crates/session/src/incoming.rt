@@ -228,8 +228,10 @@ impl ClientSession {
     ) -> Outcome
         ensures { λ r. ⌜ ((clock : RtmpTimestamp) (old : List ℕ) → Does self clock (messageCall (mediaType «type_id») time stream (now (body .entry))) old (record { outcome = r; session = self }) old) ⌝ }
     {
-        if !self.is_session() {
-            return Outcome::Refused(ClientSessionError::NotASession);
+        if !self.is_plain() {
+            if !self.is_session() {
+                return Outcome::Refused(ClientSessionError::NotASession);
+            }
         }
         if 16777215 < body.len() {
             return Outcome::Refused(ClientSessionError::Length);

@@ -1,5 +1,6 @@
 // The session record. Anyone may make any value of it: refusal 13 meets those that are no session.
 use crate::config::ClientSessionConfig;
+use crate::config::is_short;
 use crate::errors::ClientSessionError;
 use crate::events::ClientSessionEvent;
 use crate::result::ClientSessionResult;
@@ -12,6 +13,7 @@ use messages::StreamNumber;
 use octets::Wrote;
 use requests::Requests;
 ghost use mathlib.Core.Path.{_≡_};
+ghost use mathlib.Core.Bool.{true};
 ghost use Rattle.session.specs.Record.{isSession, withProgress, withRequests, withLink, withCounts};
 ghost use Rattle.session.specs.Comes.{refusedWith, quiet as quietly, sentAs};
 
@@ -66,6 +68,33 @@ impl ClientSession {
         }
         let requests = self.requests;
         requests.sound()
+    }
+
+    // Whether it is plainly a session, as most are between requests: no array is copied to tell.
+    pub(crate) fn is_plain(self) -> bool
+        ensures { λ r. ⌜ (r ≡ true → isSession self ≡ true) ⌝ }
+    {
+        let config = self.config;
+        if config.has_tc_url {
+            return false;
+        }
+        if 2147483647 < config.chunk_size {
+            return false;
+        }
+        let flash = config.flash_version;
+        if !is_short(flash) {
+            return false;
+        }
+        let requests = self.requests;
+        let next = requests.next;
+        if next == 0 {
+            return false;
+        }
+        if 4294967296 < next {
+            return false;
+        }
+        let places = requests.places;
+        requests::all_free(places)
     }
 
     pub(crate) fn refused(self, error: ClientSessionError) -> Called
