@@ -14,6 +14,21 @@ import sys
 MODS = r"(?:pub |abbrev |unfoldable |package |opaque )*"
 DECL = re.compile(r"^(\s*)" + MODS + r"((?:record |data )?)([^\s(){}\[\],;.|@\"]+)((?: \([^()]*\)| \{[^{}]*\})*) : (.*)")
 TOKEN = re.compile(r"[^\s(){}\[\],;.|@\"«»·`]+")
+# Names that stand several in a line of a data type, variables, and what a file imports a name as.
+MORE = """
+stopPublishing stopPlayback windowSize setChunkSize isOne startedPublish startedPlay grantsPublish grantsPlay stopsPublishing stopsPlayback aCamera
+aText abortOf acceptedOf acknowledgementOf commandName glyphOf grantedOf messageCall noRequests noneOf numberValue openedPlace sameOf stoppedOf storedText
+withoutOf
+""".split()
+# What port.py called the clauses that had no name, and what they are called here.
+CLAUSES = [
+    (r"requires fact_\d (\{ (?:length \(stretch )?(?:length )?(\w+)\.now[^\n]*< 2 \^ 16 \})", r"requires \2_short \1"),
+    (r"requires fact_\d (\{ at \+ [^\n]*≤ length out\.old \})", r"requires room \1"),
+    (r"requires fact_1 (\{ n < 2 \^ 24 \})", r"requires in_range \1"),
+    (r"requires fact_1 (\{ texts_sound)", r"requires sound \1"),
+    (r"ensures s_value \{", "ensures rest {"),
+    (r"ensures lower_bound (\{ \(at)", r"ensures within \1"),
+]
 LISTS = {"length", "append", "cons", "nil", "take", "drop", "set", "sets", "map", "replicate", "lookup"}
 
 
@@ -137,6 +152,15 @@ def main():
     for f in sorted(glob.glob("crates/*/must-fail/*.edit")):
         t = open(f, encoding="utf-8").read()
         u = aside(t, "# [^r]", lambda p: turned(p, new, fields))
+        if u != t:
+            open(f, "w", encoding="utf-8").write(u)
+    more = {n: humps(n) for n in MORE}
+    for f in files + sorted(glob.glob("crates/*/src/**/*.rt", recursive=True) + glob.glob("crates/*/must-fail/*.edit")):
+        t = open(f, encoding="utf-8").read()
+        u = aside(t, "//" if f.endswith(".rt") else "--" if f.endswith(".antt") else "# [^r]", lambda p: re.sub(r"\b(" + "|".join(more) + r")\b", lambda m: more[m.group(0)], p))
+        if f.endswith(".rt"):
+            for old, to in CLAUSES:
+                u = re.sub(old, to, u)
         if u != t:
             open(f, "w", encoding="utf-8").write(u)
     print(f"{len(new)} names respelled", file=sys.stderr)

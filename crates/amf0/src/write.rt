@@ -29,8 +29,8 @@ pub fn put_boolean(out: &mut [u8], at: usize, b: bool) -> usize
 
 // A property's name: a text without its marker.
 pub fn put_name(out: &mut [u8], at: usize, name: &[u8]) -> usize
-    requires fact_1 { length name.now < 2 ^ 16 }
-    requires fact_2 { at + length name.now + 2 ≤ length out.old }
+    requires name_short { length name.now < 2 ^ 16 }
+    requires room { at + length name.now + 2 ≤ length out.old }
     ensures put { Put out.old at (text_bytes name.now) out.new result }
     ensures value { result ≡ at + length name.now + 2 }
 {
@@ -39,8 +39,8 @@ pub fn put_name(out: &mut [u8], at: usize, name: &[u8]) -> usize
 }
 
 pub fn put_text(out: &mut [u8], at: usize, t: &[u8]) -> usize
-    requires fact_1 { length t.now < 2 ^ 16 }
-    requires fact_2 { at + length t.now + 3 ≤ length out.old }
+    requires t_short { length t.now < 2 ^ 16 }
+    requires room { at + length t.now + 3 ≤ length out.old }
     ensures put { Put out.old at (encode (text t.now)) out.new result }
     ensures value { result ≡ at + length t.now + 3 }
 {

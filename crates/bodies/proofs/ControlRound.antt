@@ -7,7 +7,7 @@ use mathlib.Core.List.{[], append-nil}
 use Rattle.octets.specs.Parse.{got}
 use Rattle.octets.specs.BigEndian.{digits, uint}
 use Rattle.octets.proofs.BigEndianLaws.{uint-digits}
-use Rattle.messages.specs.Incoming.{setChunkSize, acknowledgement, windowSize, user_control, event_of, user_control_of, decode}
+use Rattle.messages.specs.Incoming.{set_chunk_size, acknowledgement, window_size, user_control, event_of, user_control_of, decode}
 use Rattle.messages.specs.Numbers.{event_number}
 use Rattle.messages.specs.declared.rtmp_message.UserControlEvent.{UserControlEvent}
 use Rattle.messages.specs.declared.rtmp_message.UserControlEvent.TheVariants.{StreamBegin, StreamEof, StreamDry, SetBufferLength, StreamIsRecorded, PingRequest, PingResponse}
@@ -56,7 +56,7 @@ control_round e h = rw (uint-digits 2 (event_number e) (event_values e) (number_
 
 -- types 1, 3 and 5
 module _ (n : ℕ) (h : n < 2 ^ 32) where
-  pub chunk-size-round : decode 1 (word_body n) ≡ setChunkSize n
+  pub chunk-size-round : decode 1 (word_body n) ≡ set_chunk_size n
   unfolding decode
   chunk-size-round = rw (word n h)
 
@@ -64,6 +64,6 @@ module _ (n : ℕ) (h : n < 2 ^ 32) where
   unfolding decode
   acknowledgement-round = rw (word n h)
 
-  pub window-round : decode 5 (word_body n) ≡ windowSize n
+  pub window-round : decode 5 (word_body n) ≡ window_size n
   unfolding decode
   window-round = rw (word n h)

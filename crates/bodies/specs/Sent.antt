@@ -5,15 +5,15 @@ use Rattle.std.proofs.Math.Option.{Option, none, some}
 use Rattle.octets.specs.Compare.{ascii, same}
 use Rattle.numbers.specs.Numbers.{held}
 use Rattle.amf0.specs.Value.{Value, number, boolean, text, object, null, undefined, strict, Values, nil, cons}
-use Rattle.messages.specs.Incoming.{Incoming, malformed, setChunkSize, abort, acknowledgement, windowSize, peer_bandwidth, user_control, command, values, audio, video, unknown, Command, decode}
+use Rattle.messages.specs.Incoming.{Incoming, malformed, set_chunk_size, abort, acknowledgement, window_size, peer_bandwidth, user_control, command, values, audio, video, unknown, Command, decode}
 
 unfoldable pub command_in : Incoming → Option Command
 command_in (command c) = some c
 command_in malformed = none
-command_in (setChunkSize n) = none
+command_in (set_chunk_size n) = none
 command_in (abort n) = none
 command_in (acknowledgement n) = none
-command_in (windowSize n) = none
+command_in (window_size n) = none
 command_in (peer_bandwidth n l) = none
 command_in (user_control e) = none
 command_in (values d) = none

@@ -3,7 +3,7 @@ ghost use Rattle.std.specs.Prelude.{◌≡◌, cond, ◌++◌, ◌+◌, ◌<◌,
 ghost use Rattle.octets.specs.Compare.{ascii};
 ghost use Rattle.octets.specs.Output.{Put, Written};
 ghost use Rattle.numbers.specs.Numbers.{number_of};
-ghost use Rattle.amf0.specs.Value.{number as numberValue, text, null, prop, nil};
+ghost use Rattle.amf0.specs.Value.{number as number_value, text, null, prop, nil};
 ghost use Rattle.amf0.specs.Encode.{encode, encode_props, encode_values};
 ghost use Rattle.messages.specs.declared.rtmp_message.UserControlEvent.TheVariants.{SetBufferLength};
 ghost use Rattle.bodies.specs.Bodies.{command_values, tc_url_prop, connect_object, connect_body, create_stream_body, delete_stream_body, play_body, publish_name, publish_body, control_body};
@@ -15,9 +15,9 @@ use octets::Wrote;
 
 // A command's name and number.
 fn put_head(out: &mut [u8], at: usize, name: &[u8], n: u32) -> usize
-    requires fact_1 { length name.now < 2 ^ 16 }
-    requires fact_2 { at + length name.now + 12 ≤ length out.old }
-    ensures put { Put out.old at (encode (text name.now) ++ encode (numberValue (number_of n))) out.new result }
+    requires name_short { length name.now < 2 ^ 16 }
+    requires room { at + length name.now + 12 ≤ length out.old }
+    ensures put { Put out.old at (encode (text name.now) ++ encode (number_value (number_of n))) out.new result }
     ensures value { result ≡ at + length name.now + 12 }
 {
     let a = amf0::put_text(out, at, name);
@@ -26,8 +26,8 @@ fn put_head(out: &mut [u8], at: usize, name: &[u8], n: u32) -> usize
 
 // A command as far as its arguments, with null for its object.
 fn put_command(out: &mut [u8], at: usize, name: &[u8], n: u32) -> usize
-    requires fact_1 { length name.now < 2 ^ 16 }
-    requires fact_2 { at + length name.now + 13 ≤ length out.old }
+    requires name_short { length name.now < 2 ^ 16 }
+    requires room { at + length name.now + 13 ≤ length out.old }
     ensures put { Put out.old at (encode_values (command_values name.now n null nil)) out.new result }
     ensures value { result ≡ at + length name.now + 13 }
 {
@@ -45,8 +45,8 @@ fn len_if(sent: bool, n: usize) -> usize
 
 // tcUrl where it is configured, and the object's end.
 fn put_tc_url(out: &mut [u8], at: usize, has: bool, url: &[u8]) -> usize
-    requires fact_1 { length url.now < 2 ^ 16 }
-    requires fact_2 { at + cond has (length url.now + 10) 0 + 3 ≤ length out.old }
+    requires url_short { length url.now < 2 ^ 16 }
+    requires room { at + cond has (length url.now + 10) 0 + 3 ≤ length out.old }
     ensures { Put out.old at (encode_props (tc_url_prop has url.now)) out.new result }
 {
     if has {
@@ -58,9 +58,9 @@ fn put_tc_url(out: &mut [u8], at: usize, has: bool, url: &[u8]) -> usize
 
 // The object from `objectEncoding` on.
 fn put_from_encoding(out: &mut [u8], at: usize, has: bool, url: &[u8]) -> usize
-    requires fact_1 { length url.now < 2 ^ 16 }
-    requires fact_2 { at + 28 + cond has (length url.now + 10) 0 ≤ length out.old }
-    ensures { Put out.old at (encode_props (prop (ascii "objectEncoding") (numberValue (number_of 0)) (tc_url_prop has url.now))) out.new result }
+    requires url_short { length url.now < 2 ^ 16 }
+    requires room { at + 28 + cond has (length url.now + 10) 0 ≤ length out.old }
+    ensures { Put out.old at (encode_props (prop (ascii "objectEncoding") (number_value (number_of 0)) (tc_url_prop has url.now))) out.new result }
 {
     let a = put_number_property(out, at, b"objectEncoding", numbers::number_of(0));
     put_tc_url(out, a, has, url)
@@ -75,10 +75,10 @@ fn put_connect_object(
     has: bool,
     url: &[u8],
 ) -> usize
-    requires fact_1 { length app.now < 2 ^ 16 }
-    requires fact_2 { length flash.now < 2 ^ 16 }
-    requires fact_3 { length url.now < 2 ^ 16 }
-    requires fact_4 { at + 50 + length app.now + length flash.now + cond has (length url.now + 10) 0 ≤ length out.old }
+    requires app_short { length app.now < 2 ^ 16 }
+    requires flash_short { length flash.now < 2 ^ 16 }
+    requires url_short { length url.now < 2 ^ 16 }
+    requires room { at + 50 + length app.now + length flash.now + cond has (length url.now + 10) 0 ≤ length out.old }
     ensures { Put out.old at (encode (connect_object app.now flash.now has url.now)) out.new result }
 {
     let a = amf0::put_object_start(out, at);
@@ -95,9 +95,9 @@ pub fn write_connect(
     has_url: bool,
     url: &[u8],
 ) -> Wrote
-    requires fact_1 { length app.now < 2 ^ 16 }
-    requires fact_2 { length flash.now < 2 ^ 16 }
-    requires fact_3 { length url.now < 2 ^ 16 }
+    requires app_short { length app.now < 2 ^ 16 }
+    requires flash_short { length flash.now < 2 ^ 16 }
+    requires url_short { length url.now < 2 ^ 16 }
     ensures { Written out.old (connect_body number.0 app.now flash.now has_url url.now) out.new result }
 {
     if out.len() < 69 + app.len() + flash.len() + len_if(has_url, url.len() + 10) {
@@ -127,8 +127,8 @@ pub fn write_delete_stream(out: &mut [u8], stream: StreamNumber) -> Wrote
 }
 
 fn put_play(out: &mut [u8], at: usize, key: &[u8]) -> usize
-    requires fact_1 { length key.now < 2 ^ 16 }
-    requires fact_2 { at + length key.now + 20 ≤ length out.old }
+    requires key_short { length key.now < 2 ^ 16 }
+    requires room { at + length key.now + 20 ≤ length out.old }
     ensures { Put out.old at (play_body key.now) out.new result }
 {
     let a = put_command(out, at, b"play", 0);

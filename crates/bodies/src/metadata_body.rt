@@ -2,7 +2,7 @@
 ghost use Rattle.std.specs.Prelude.{◌≡◌, ◌++◌, ◌+◌, ◌<◌, ◌≤◌, ◌^◌, length};
 ghost use Rattle.octets.specs.Compare.{ascii};
 ghost use Rattle.octets.specs.Output.{Put, Written};
-ghost use Rattle.amf0.specs.Value.{text as aText};
+ghost use Rattle.amf0.specs.Value.{text as a_text};
 ghost use Rattle.amf0.specs.Encode.{encode, object_start, object_end};
 ghost use Rattle.amf0.specs.Places.{stretch};
 ghost use Rattle.bodies.specs.MetadataBody.{metadata_body};
@@ -54,8 +54,8 @@ fn encoder_len(v: TextAt, text: &[u8]) -> usize
 }
 
 fn put_whole(out: &mut [u8], at: usize, name: &[u8], v: OptionU32) -> usize
-    requires fact_1 { length name.now < 2 ^ 16 }
-    requires fact_2 { at + size_if (whole_value v) (length name.now + 11) ≤ length out.old }
+    requires name_short { length name.now < 2 ^ 16 }
+    requires room { at + size_if (whole_value v) (length name.now + 11) ≤ length out.old }
     ensures put { Put out.old at (field_bytes name.now (whole_value v)) out.new result }
     ensures value { result ≡ at + size_if (whole_value v) (length name.now + 11) }
 {
@@ -66,8 +66,8 @@ fn put_whole(out: &mut [u8], at: usize, name: &[u8], v: OptionU32) -> usize
 }
 
 fn put_rate(out: &mut [u8], at: usize, name: &[u8], v: OptionF32) -> usize
-    requires fact_1 { length name.now < 2 ^ 16 }
-    requires fact_2 { at + size_if (rate_value v) (length name.now + 11) ≤ length out.old }
+    requires name_short { length name.now < 2 ^ 16 }
+    requires room { at + size_if (rate_value v) (length name.now + 11) ≤ length out.old }
     ensures put { Put out.old at (field_bytes name.now (rate_value v)) out.new result }
     ensures value { result ≡ at + size_if (rate_value v) (length name.now + 11) }
 {
@@ -78,8 +78,8 @@ fn put_rate(out: &mut [u8], at: usize, name: &[u8], v: OptionF32) -> usize
 }
 
 fn put_flag(out: &mut [u8], at: usize, name: &[u8], v: OptionBool) -> usize
-    requires fact_1 { length name.now < 2 ^ 16 }
-    requires fact_2 { at + size_if (flag_value v) (length name.now + 4) ≤ length out.old }
+    requires name_short { length name.now < 2 ^ 16 }
+    requires room { at + size_if (flag_value v) (length name.now + 4) ≤ length out.old }
     ensures put { Put out.old at (field_bytes name.now (flag_value v)) out.new result }
     ensures value { result ≡ at + size_if (flag_value v) (length name.now + 4) }
 {
@@ -90,8 +90,8 @@ fn put_flag(out: &mut [u8], at: usize, name: &[u8], v: OptionBool) -> usize
 }
 
 fn put_encoder(out: &mut [u8], at: usize, v: TextAt, text: &[u8]) -> usize
-    requires fact_1 { length (stretch text.now v) < 2 ^ 16 }
-    requires fact_2 { at + size_if (text_value text.now v) (length (stretch text.now v) + 12) ≤ length out.old }
+    requires text_short { length (stretch text.now v) < 2 ^ 16 }
+    requires room { at + size_if (text_value text.now v) (length (stretch text.now v) + 12) ≤ length out.old }
     ensures put { Put out.old at (field_bytes (ascii "encoder") (text_value text.now v)) out.new result }
     ensures value { result ≡ at + size_if (text_value text.now v) (length (stretch text.now v) + 12) }
 {
@@ -174,8 +174,8 @@ fn put_rates(out: &mut [u8], at: usize, m: StreamMetadata) -> usize
 
 // The last fields, and the object's end.
 fn put_last(out: &mut [u8], at: usize, m: StreamMetadata, text: &[u8]) -> usize
-    requires fact_1 { length (stretch text.now m.encoder) < 2 ^ 16 }
-    requires fact_2 { at + last_size text.now m ≤ length out.old }
+    requires text_short { length (stretch text.now m.encoder) < 2 ^ 16 }
+    requires room { at + last_size text.now m ≤ length out.old }
     ensures { Put out.old at (fields_bytes (last_fields text.now m) ++ object_end) out.new result }
 {
     let channels = m.audio_channels;
@@ -190,7 +190,7 @@ fn put_last(out: &mut [u8], at: usize, m: StreamMetadata, text: &[u8]) -> usize
 // The two texts, and what the object begins with.
 fn put_names(out: &mut [u8], at: usize) -> usize
     requires { at + 30 ≤ length out.old }
-    ensures put { Put out.old at (encode (aText (ascii "@setDataFrame")) ++ (encode (aText (ascii "onMetaData")) ++ object_start)) out.new result }
+    ensures put { Put out.old at (encode (a_text (ascii "@setDataFrame")) ++ (encode (a_text (ascii "onMetaData")) ++ object_start)) out.new result }
     ensures value { result ≡ at + 30 }
 {
     let a = amf0::put_text(out, at, b"@setDataFrame");

@@ -5,8 +5,8 @@ ghost use Rattle.amf0.specs.Value.{number, boolean, text};
 ghost use Rattle.amf0.specs.Encode.{text_bytes, encode};
 
 pub fn put_number_property(out: &mut [u8], at: usize, name: &[u8], bits: u64) -> usize
-    requires fact_1 { length name.now < 2 ^ 16 }
-    requires fact_2 { at + length name.now + 11 ≤ length out.old }
+    requires name_short { length name.now < 2 ^ 16 }
+    requires room { at + length name.now + 11 ≤ length out.old }
     ensures put { Put out.old at (text_bytes name.now ++ encode (number bits)) out.new result }
     ensures value { result ≡ at + length name.now + 11 }
 {
@@ -15,8 +15,8 @@ pub fn put_number_property(out: &mut [u8], at: usize, name: &[u8], bits: u64) ->
 }
 
 pub fn put_boolean_property(out: &mut [u8], at: usize, name: &[u8], b: bool) -> usize
-    requires fact_1 { length name.now < 2 ^ 16 }
-    requires fact_2 { at + length name.now + 4 ≤ length out.old }
+    requires name_short { length name.now < 2 ^ 16 }
+    requires room { at + length name.now + 4 ≤ length out.old }
     ensures put { Put out.old at (text_bytes name.now ++ encode (boolean b)) out.new result }
     ensures value { result ≡ at + length name.now + 4 }
 {
@@ -25,9 +25,9 @@ pub fn put_boolean_property(out: &mut [u8], at: usize, name: &[u8], b: bool) -> 
 }
 
 pub fn put_text_property(out: &mut [u8], at: usize, name: &[u8], t: &[u8]) -> usize
-    requires fact_1 { length name.now < 2 ^ 16 }
-    requires fact_2 { length t.now < 2 ^ 16 }
-    requires fact_3 { at + length name.now + length t.now + 5 ≤ length out.old }
+    requires name_short { length name.now < 2 ^ 16 }
+    requires t_short { length t.now < 2 ^ 16 }
+    requires room { at + length name.now + length t.now + 5 ≤ length out.old }
     ensures put { Put out.old at (text_bytes name.now ++ encode (text t.now)) out.new result }
     ensures value { result ≡ at + length name.now + length t.now + 5 }
 {

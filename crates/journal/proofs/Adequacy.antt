@@ -12,7 +12,7 @@ use lib.Dec.{eqb}
 use borrow.Author.Tests.{eqb-true, eq-eqb}
 use Rattle.requests.specs.declared.outstanding_transaction.OutstandingTransaction.{OutstandingTransaction}
 use Rattle.journal.specs.Lines.{Line, Journal, Each}
-use Rattle.journal.specs.Rule.{Said, nothing, asked, resulted, failed, startedPlay, startedPublish, deleted, said, open_by, rule_open, found_or, latest, any_since, is_own, is_deleted, mark, grant_at, stage_by, stage_of, rule_stage, active_of, rule_active, latest_grant}
+use Rattle.journal.specs.Rule.{Said, nothing, asked, resulted, failed, started_play, started_publish, deleted, said, open_by, rule_open, found_or, latest, any_since, is_own, is_deleted, mark, grant_at, stage_by, stage_of, rule_stage, active_of, rule_active, latest_grant}
 use Rattle.journal.specs.Meaning.{Latest, Never, Came, reply_number, Unanswered, Means}
 use Rattle.journal.proofs.EachLaws.{each_none, each_more, each_first, each-rest}
 
@@ -110,8 +110,8 @@ open_still (failed m) n o h g = go (eqb m n) refl
     go : (b : Bool) → eqb m n ≡ b → cond b none o ≢ none
     go true e = absurd (h (ap some (eqb-true m n e)))
     go false e = g
-open_still startedPlay n o h g = g
-open_still startedPublish n o h g = g
+open_still started_play n o h g = g
+open_still started_publish n o h g = g
 open_still deleted n o h g = g
 
 open-given : (since : List Line) (line : Line) (before : Journal) (n : ℕ) (k : OutstandingTransaction) → said line ≡ asked n k
@@ -149,8 +149,8 @@ open-cases (failed m) n k o h = go (eqb m n) refl h
     go : (b : Bool) → eqb m n ≡ b → cond b none o ≡ some k → Either (failed m) n k o
     go true e h = let z : ◌≡◌ {A = ℕ} 0 1 = cc in absurd (omega arith)
     go false e h = inr (other-number m n e, h)
-open-cases startedPlay n k o h = inr (silent n, h)
-open-cases startedPublish n k o h = inr (silent n, h)
+open-cases started_play n k o h = inr (silent n, h)
+open-cases started_publish n k o h = inr (silent n, h)
 open-cases deleted n k o h = inr (silent n, h)
 
 unanswered : (j : Journal) (n : ℕ) (k : OutstandingTransaction) → rule_open j n ≡ some k → Unanswered j n k

@@ -14,7 +14,7 @@ use denote.Triple.Entry.{Args}
 use types.Logic.{Logic}
 use prog.Memory.{Memory}
 use prog.Routine.{Routine}
-use Rattle.session.specs.Calls.{connect, play, publish, stopPlayback, stopPublishing, ping, picture, sound, metadata, bytes, message}
+use Rattle.session.specs.Calls.{connect, play, publish, stop_playback, stop_publishing, ping, picture, sound, metadata, bytes, message}
 use Rattle.session.specs.declared.record.Called.{Called}
 use Rattle.session.specs.declared.result.Outcome.{Outcome}
 use Rattle.session.specs.declared.result.Outcome.TheVariants.{Nothing}
@@ -66,11 +66,11 @@ pub request-publishing-step : (κs : Lfts 2) (a : Dens κs request-publishing-ki
 request-publishing-step κs a r x d t = called t _ a.1.0 a.1.1.1.1.0.now r x.1.1.1.1.0.now d
 
 pub stop-playback-step : (κs : Lfts 1) (a : Dens κs stop-playback-kinds.ps) (r : Called) (x : AtExit (ended_of 1 stop-playback-kinds.ps stop-playback-kinds.r) κs)
-    → stop-playback.Learnt κs a r x → {j : Journal} → Trace a.0 j → Trace r.session (line_of (stopPlayback) r.outcome x.1.1.0.now ∷ j)
+    → stop-playback.Learnt κs a r x → {j : Journal} → Trace a.0 j → Trace r.session (line_of (stop_playback) r.outcome x.1.1.0.now ∷ j)
 stop-playback-step κs a r x d t = called t _ a.1.0 a.1.1.0.now r x.1.1.0.now d
 
 pub stop-publishing-step : (κs : Lfts 1) (a : Dens κs stop-publishing-kinds.ps) (r : Called) (x : AtExit (ended_of 1 stop-publishing-kinds.ps stop-publishing-kinds.r) κs)
-    → stop-publishing.Learnt κs a r x → {j : Journal} → Trace a.0 j → Trace r.session (line_of (stopPublishing) r.outcome x.1.1.0.now ∷ j)
+    → stop-publishing.Learnt κs a r x → {j : Journal} → Trace a.0 j → Trace r.session (line_of (stop_publishing) r.outcome x.1.1.0.now ∷ j)
 stop-publishing-step κs a r x d t = called t _ a.1.0 a.1.1.0.now r x.1.1.0.now d
 
 pub send_ping-request-step : (κs : Lfts 1) (a : Dens κs send-ping-request-kinds.ps) (r : Called) (x : AtExit (ended_of 1 send-ping-request-kinds.ps send-ping-request-kinds.r) κs)

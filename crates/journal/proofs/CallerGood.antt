@@ -120,23 +120,23 @@ publishing-streams PublishRequested e = refl
 publishing-streams Publishing e = refl
 
 abbrev pub publishing : Bool → View
-publishing isOne = record { well = λ ms. nothing; pictures = isOne; asking = 0 }
+publishing is_one = record { well = λ ms. nothing; pictures = is_one; asking = 0 }
 
-good-published-on : (s : ClientSession) (clock : RtmpTimestamp) (given : Check) (message : StreamNumber → Message) (isOne : Bool) (a : ActiveStream)
+good-published-on : (s : ClientSession) (clock : RtmpTimestamp) (given : Check) (message : StreamNumber → Message) (is_one : Bool) (a : ActiveStream)
     → s.progress.active ≡ a → Sound s → streaming s.progress.state ≡ true → mild (refusal_number given.says) ≡ true
-    → ((x : StreamNumber) → s.progress.active ≡ active.Some x → Carries s isOne (message x ∷ [])) → Good s (publishing isOne) (published_on s clock given message a)
+    → ((x : StreamNumber) → s.progress.active ≡ active.Some x → Carries s is_one (message x ∷ [])) → Good s (publishing is_one) (published_on s clock given message a)
 unfolding sent_by in_turn
-good-published-on s clock given message isOne active.None q h g m f = absurd (idle s.progress.state g (h.streamed.idle q))
-good-published-on s clock given message isOne (active.Some x) q h g m f =
-    good_order s (publishing isOne) (given ∷ []) _ (rw m) λ c. record { moves = λ n. still s s refl refl; carries = f x q }
+good-published-on s clock given message is_one active.None q h g m f = absurd (idle s.progress.state g (h.streamed.idle q))
+good-published-on s clock given message is_one (active.Some x) q h g m f =
+    good_order s (publishing is_one) (given ∷ []) _ (rw m) λ c. record { moves = λ n. still s s refl refl; carries = f x q }
 
-pub good-published : (s : ClientSession) (clock : RtmpTimestamp) (given : Check) (message : StreamNumber → Message) (isOne : Bool) → Sound s
-    → mild (refusal_number given.says) ≡ true → ((x : StreamNumber) → s.progress.active ≡ active.Some x → Carries s isOne (message x ∷ []))
-    → Good s (publishing isOne) (published s clock given message)
+pub good-published : (s : ClientSession) (clock : RtmpTimestamp) (given : Check) (message : StreamNumber → Message) (is_one : Bool) → Sound s
+    → mild (refusal_number given.says) ≡ true → ((x : StreamNumber) → s.progress.active ≡ active.Some x → Carries s is_one (message x ∷ []))
+    → Good s (publishing is_one) (published s clock given message)
 unfolding published
-good-published s clock given message isOne h m f =
-    good_order s (publishing isOne) (unless_stage is_publishing s ∷ []) _ refl λ c.
-    good-published-on s clock given message isOne s.progress.active refl h
+good-published s clock given message is_one h m f =
+    good_order s (publishing is_one) (unless_stage is_publishing s ∷ []) _ refl λ c.
+    good-published-on s clock given message is_one s.progress.active refl h
     (publishing-streams s.progress.state (passed (is_publishing s.progress.state) c.0)) m f
 
 -- a picture on the active stream

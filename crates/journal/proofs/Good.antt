@@ -41,20 +41,20 @@ pub record Moves (s : ClientSession) (w : Said) (after : ClientSession) : Type 0
 
 -- a picture among the messages is a picture call's, on the active stream
 abbrev pub Carries : ClientSession → Bool → List Message → Type 0
-Carries s isOne ms = (m : Message) → Memᴰ m ms → m.type_id ≡ 9 → (isOne ≡ true) × (active_number s.progress.active ≡ some m.stream.0)
+Carries s is_one ms = (m : Message) → Memᴰ m ms → m.type_id ≡ 9 → (is_one ≡ true) × (active_number s.progress.active ≡ some m.stream.0)
 
 unfoldable pub no_picture : List Message → Bool
 no_picture [] = true
 no_picture (m ∷ ms) = not (eqb m.type_id 9) && no_picture ms
 
-pub carries-none : (s : ClientSession) (isOne : Bool) (ms : List Message) → no_picture ms ≡ true → Carries s isOne ms
+pub carries-none : (s : ClientSession) (is_one : Bool) (ms : List Message) → no_picture ms ≡ true → Carries s is_one ms
 unfolding no_picture
-carries-none s isOne [] h m i e = absurd (Memᴰ.not-nil i)
-carries-none s isOne (x ∷ ms) h m i e =
-    go (Memᴰ.cases_cons i) (carries-none s isOne ms (and_right (not (eqb x.type_id 9)) (no_picture ms) h) m)
+carries-none s is_one [] h m i e = absurd (Memᴰ.not-nil i)
+carries-none s is_one (x ∷ ms) h m i e =
+    go (Memᴰ.cases_cons i) (carries-none s is_one ms (and_right (not (eqb x.type_id 9)) (no_picture ms) h) m)
   where
-    go : (m ≡ x) ⊎ Memᴰ m ms → (Memᴰ m ms → m.type_id ≡ 9 → (isOne ≡ true) × (active_number s.progress.active ≡ some m.stream.0))
-        → (isOne ≡ true) × (active_number s.progress.active ≡ some m.stream.0)
+    go : (m ≡ x) ⊎ Memᴰ m ms → (Memᴰ m ms → m.type_id ≡ 9 → (is_one ≡ true) × (active_number s.progress.active ≡ some m.stream.0))
+        → (is_one ≡ true) × (active_number s.progress.active ≡ some m.stream.0)
     go (inl q) f =
         let t : eqb x.type_id 9 ≡ true = eq-eqb _ _ (ap (λ y. y.type_id) (sym q) ∙ e) in
         let n : not (eqb x.type_id 9) ≡ true = and_left (not (eqb x.type_id 9)) (no_picture ms) h in

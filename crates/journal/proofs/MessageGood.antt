@@ -10,7 +10,7 @@ use lib.ListN.{drop}
 use borrow.Author.Tests.{eqb-true}
 use Rattle.numbers.specs.Numbers.{held}
 use Rattle.octets.specs.Parse.{place_of}
-use Rattle.messages.specs.Incoming.{Incoming, malformed, setChunkSize, abort, acknowledgement, windowSize, peer_bandwidth, user_control, command, values, audio, video, unknown}
+use Rattle.messages.specs.Incoming.{Incoming, malformed, set_chunk_size, abort, acknowledgement, window_size, peer_bandwidth, user_control, command, values, audio, video, unknown}
 use Rattle.messages.specs.Places.{command_at, data_at, placed}
 use Rattle.messages.specs.Notice.{code_at}
 use Rattle.messages.specs.declared.ids.RtmpTimestamp.{RtmpTimestamp}
@@ -44,7 +44,7 @@ use Rattle.session.specs.declared.events.ClientSessionEvent.{ClientSessionEvent}
 use Rattle.session.specs.declared.errors.ClientSessionError.TheVariants.{InvalidMaxChunkSize}
 use Rattle.session.specs.declared.record.ClientSession.{ClientSession}
 use Rattle.session_laws.proofs.DecideLaws.{is-play-requested, is-publish-requested}
-use Rattle.journal.specs.Rule.{nothing, resulted, failed, startedPlay, startedPublish, open_by, grant_number, notice_said, command_said, message_said, requested_stage}
+use Rattle.journal.specs.Rule.{nothing, resulted, failed, started_play, started_publish, open_by, grant_number, notice_said, command_said, message_said, requested_stage}
 use Rattle.journal.proofs.RuleLaws.{stage_after, active_after}
 use Rattle.journal.proofs.Good.{kind_of, opens, Moves, no_picture, carries-none, heard, Good, good_order, passed, silent}
 
@@ -141,14 +141,14 @@ module _ (s : ClientSession) (clock : RtmpTimestamp) (b : List ℕ) where
   good-noticed : (c : OnStatus) → Good s (heard (notice_said c)) (noticed s clock b c)
   unfolding stage_after active_after open_by sent_by in_turn no_picture
   good-noticed status.PlayStart =
-      good_order s (heard startedPlay) (unless_stage is_play_requested s ∷ []) _ refl λ e.
+      good_order s (heard started_play) (unless_stage is_play_requested s ∷ []) _ refl λ e.
       let g = is-play-requested s.progress.state (passed _ e.0) in
       record {
         moves = λ i. record { stage_moves = rw g; active_moves = refl; open_moves = λ m. refl };
         carries = carries-none s false _ refl;
       }
   good-noticed status.PublishStart =
-      good_order s (heard startedPublish) (unless_stage is_publish_requested s ∷ []) _ refl λ e.
+      good_order s (heard started_publish) (unless_stage is_publish_requested s ∷ []) _ refl λ e.
       let g = is-publish-requested s.progress.state (passed _ e.0) in
       record {
         moves = λ i. record { stage_moves = rw g; active_moves = refl; open_moves = λ m. refl };
@@ -195,12 +195,12 @@ module _ (s : ClientSession) (clock : RtmpTimestamp) (b : List ℕ) where
       → Good s (heard (message_said b (command_in i))) (on_message s clock b k t x (placed b i))
   unfolding on_message placed message_said command_in sent_by in_turn no_picture
   good-message k t x malformed = refl
-  good-message k t x (setChunkSize n) =
+  good-message k t x (set_chunk_size n) =
       good_order s (heard nothing) (record { when = ltb 2147483647 n; says = InvalidMaxChunkSize } ∷ []) _ refl λ q.
       silent s _ _ refl refl refl
   good-message k t x (abort n) = silent s _ _ refl refl refl
   good-message k t x (acknowledgement n) = silent s _ _ refl refl refl
-  good-message k t x (windowSize n) = silent s _ _ refl refl refl
+  good-message k t x (window_size n) = silent s _ _ refl refl refl
   good-message k t x (peer_bandwidth n l) = silent s _ _ refl refl refl
   good-message k t x (user_control e) = good_control_in e
   good-message k t x (command c) = good-command (command_at b c) (command_at b c).name

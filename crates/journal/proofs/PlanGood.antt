@@ -8,7 +8,7 @@ use Rattle.messages.specs.Incoming.{decode}
 use Rattle.messages.specs.declared.ids.RtmpTimestamp.{RtmpTimestamp}
 use Rattle.requests.specs.declared.outstanding_transaction.OutstandingTransaction.TheVariants.{ConnectionRequested, CreateStream}
 use Rattle.requests.specs.declared.outstanding_transaction.TransactionPurpose.TheVariants.{PlayRequest, PublishRequest}
-use Rattle.session.specs.Calls.{Call, connect, play, publish, stopPlayback, stopPublishing, ping, picture, sound, metadata, bytes, message}
+use Rattle.session.specs.Calls.{Call, connect, play, publish, stop_playback, stop_publishing, ping, picture, sound, metadata, bytes, message}
 use Rattle.session.specs.Outcomes.{in_turn, sent_by}
 use Rattle.session.specs.Plan.{is_connected, is_play, is_publish, unless_stage, if_long, if_large, connect_next, create_next, ping_plan}
 use Rattle.session.specs.Step.{unless_disconnected, plan}
@@ -28,8 +28,8 @@ good s clock (play key) h =
     good-request s clock (unless_stage is_connected s) (CreateStream PlayRequest) key (create_next s) h refl
 good s clock (publish key t) h =
     good-request s clock (unless_stage is_connected s) (CreateStream (PublishRequest t)) key (create_next s) h refl
-good s clock stopPlayback h = good-stop s clock is_play h play_streams
-good s clock stopPublishing h = good-stop s clock is_publish h publish-streams
+good s clock stop_playback h = good-stop s clock is_play h play_streams
+good s clock stop_publishing h = good-stop s clock is_publish h publish-streams
 good s clock ping h = silent s _ _ refl refl refl
 good s clock (picture b t d) h = good-published s clock (if_large b) _ true h refl (λ x q. one-picture s x _ q refl)
 good s clock (sound b t d) h = good-published s clock (if_large b) _ false h refl (λ x q. carries-none s false _ refl)

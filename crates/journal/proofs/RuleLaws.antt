@@ -15,7 +15,7 @@ use Rattle.requests.specs.declared.outstanding_transaction.TransactionPurpose.Th
 use Rattle.session.specs.declared.state.ClientState.{ClientState}
 use Rattle.session.specs.declared.state.ClientState.TheVariants.{Disconnected, Connected, PlayRequested, Playing, PublishRequested, Publishing}
 use Rattle.journal.specs.Lines.{Line, Journal}
-use Rattle.journal.specs.Rule.{Said, nothing, asked, resulted, failed, startedPlay, startedPublish, deleted, said, open_by, rule_open, Mark, accepted, grant, stopped, mark_reply, mark_by, mark, Found, found_or, latest, any_since, is_own, requested_stage, running_stage, stage_by, stage_of, rule_stage, grant_in, grant_at, is_deleted, active_of, rule_active, number_found, latest_grant}
+use Rattle.journal.specs.Rule.{Said, nothing, asked, resulted, failed, started_play, started_publish, deleted, said, open_by, rule_open, Mark, accepted, grant, stopped, mark_reply, mark_by, mark, Found, found_or, latest, any_since, is_own, requested_stage, running_stage, stage_by, stage_of, rule_stage, grant_in, grant_at, is_deleted, active_of, rule_active, number_found, latest_grant}
 
 -- ---- what a line does to the stage and the active stream, by what it says and what was open
 
@@ -52,8 +52,8 @@ stage_after nothing was g = g
 stage_after (asked n k) was g = g
 stage_after (resulted n x) was g = stage_marked (mark_reply x (was n)) g
 stage_after (failed n) was g = g
-stage_after startedPlay was g = start_play g
-stage_after startedPublish was g = start_publish g
+stage_after started_play was g = start_play g
+stage_after started_publish was g = start_publish g
 stage_after deleted was g = Connected
 
 unfoldable pub active_after : Said → (ℕ → Option OutstandingTransaction) → Option ℕ → Option ℕ
@@ -61,8 +61,8 @@ active_after nothing was a = a
 active_after (asked n k) was a = a
 active_after (resulted n x) was a = active_marked (mark_reply x (was n)) a
 active_after (failed n) was a = a
-active_after startedPlay was a = a
-active_after startedPublish was a = a
+active_after started_play was a = a
+active_after started_publish was a = a
 active_after deleted was a = none
 
 -- ---- the stage
@@ -83,13 +83,13 @@ no-mark f d c l g (some r) = go r.what
     go (grant p x) = g p (any_since (is_own p) r.since)
     go stopped = sym c
 
-start-play : (p : TransactionPurpose) (b : Bool) → grant_stage p (is_own p startedPlay || b) ≡ start_play (grant_stage p b)
+start-play : (p : TransactionPurpose) (b : Bool) → grant_stage p (is_own p started_play || b) ≡ start_play (grant_stage p b)
 start-play PlayRequest true = refl
 start-play PlayRequest false = refl
 start-play (PublishRequest t) true = refl
 start-play (PublishRequest t) false = refl
 
-start-publish : (p : TransactionPurpose) (b : Bool) → grant_stage p (is_own p startedPublish || b) ≡ start_publish (grant_stage p b)
+start-publish : (p : TransactionPurpose) (b : Bool) → grant_stage p (is_own p started_publish || b) ≡ start_publish (grant_stage p b)
 start-publish PlayRequest true = refl
 start-publish PlayRequest false = refl
 start-publish (PublishRequest t) true = refl
@@ -111,8 +111,8 @@ stage-said l j nothing e r = stage-marked l (λ p. rw e) none r
 stage-said l j (asked n k) e r = stage-marked l (λ p. rw e) none r
 stage-said l j (resulted n x) e r = stage-marked l (λ p. rw e) (mark_reply x (rule_open j n)) r
 stage-said l j (failed n) e r = stage-marked l (λ p. rw e) none r
-stage-said l j startedPlay e r = no-mark start_play refl refl l (λ p b. rw e (start-play p b)) r
-stage-said l j startedPublish e r = no-mark start_publish refl refl l (λ p b. rw e (start-publish p b)) r
+stage-said l j started_play e r = no-mark start_play refl refl l (λ p b. rw e (start-play p b)) r
+stage-said l j started_publish e r = no-mark start_publish refl refl l (λ p b. rw e (start-publish p b)) r
 stage-said l j deleted e r = stage-marked l (λ p. rw e) (some stopped) r
 
 pub stage-more : (l : Line) (j : Journal) → rule_stage (l ∷ j) ≡ stage_after (said l) (rule_open j) (rule_stage j)
@@ -153,8 +153,8 @@ active-said l j nothing e r = active-marked l (rw e) none no_stop r
 active-said l j (asked n k) e r = active-marked l (rw e) none no_stop r
 active-said l j (resulted n x) e r = active-marked l (rw e) (mark_reply x (rule_open j n)) (reply-marked x (rule_open j n)) r
 active-said l j (failed n) e r = active-marked l (rw e) none no_stop r
-active-said l j startedPlay e r = active-marked l (rw e) none no_stop r
-active-said l j startedPublish e r = active-marked l (rw e) none no_stop r
+active-said l j started_play e r = active-marked l (rw e) none no_stop r
+active-said l j started_publish e r = active-marked l (rw e) none no_stop r
 active-said l j deleted e r = active-deleted l (rw e) r
 
 pub active-more : (l : Line) (j : Journal) → rule_active (l ∷ j) ≡ active_after (said l) (rule_open j) (rule_active j)

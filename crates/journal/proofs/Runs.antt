@@ -16,19 +16,19 @@ use Rattle.amf0.specs.Lookup.{last_of, properties_of, properties_at}
 use Rattle.amf0.specs.Places.{text_kind, kind_after, kind_at, text_found, text_of_property, stretch}
 use Rattle.messages.specs.Incoming.{event_of, user_control_of, text_only, number_only, command_of, after_zero, decode}
 use Rattle.messages.specs.Notice.{code_is, code_of}
-use Rattle.messages.specs.Places.{name_of as commandName, argument_of, first_of, placed}
+use Rattle.messages.specs.Places.{name_of as command_name, argument_of, first_of, placed}
 use Rattle.messages.specs.declared.ids.RtmpTimestamp.{RtmpTimestamp}
 use Rattle.bodies.specs.Bodies.{connect_body, create_stream_body, delete_stream_body, play_body, publish_body, control_body}
 use Rattle.bodies.specs.Sent.{command_in, requested, first_number, deletes}
 use Rattle.requests.specs.Places.{open_count, lookup, without, first_free, free_place_is, put, has_number, place_sound, places_sound}
 use Rattle.requests.specs.Table.{none, requests_sound, asked, closed}
-use Rattle.requests.specs.Texts.{fits, text_of as storedText, text_sound, stored}
+use Rattle.requests.specs.Texts.{fits, text_of as stored_text, text_sound, stored}
 use Rattle.requests.specs.declared.outstanding_transaction.OutstandingTransaction.{OutstandingTransaction}
 use Rattle.requests.specs.declared.outstanding_transaction.OutstandingTransaction.TheVariants.{ConnectionRequested, CreateStream}
 use Rattle.requests.specs.declared.outstanding_transaction.TransactionPurpose.TheVariants.{PlayRequest, PublishRequest}
 use Rattle.requests.specs.declared.place.Slot.TheVariants.{Open}
 use Rattle.requests.specs.declared.table.Requests.{Requests}
-use Rattle.session.specs.Calls.{Call, connect, play, publish, stopPlayback, stopPublishing, ping, picture, sound, metadata, bytes, message, plain, sends, one}
+use Rattle.session.specs.Calls.{Call, connect, play, publish, stop_playback, stop_publishing, ping, picture, sound, metadata, bytes, message, plain, sends, one}
 use Rattle.session.specs.Outcomes.{in_turn, sent_by, bodies, outcome_of}
 use Rattle.session.specs.Record.{default_config, texts_sound, is_session, fresh, open_of, with_requests}
 use Rattle.session.specs.Plan.{Plan, go, Check, in_order, is_connected, unless_stage, if_long, if_spent, if_eight_open, connect_next, create_next, request, stop, published, ping_plan, count}
@@ -54,7 +54,7 @@ run-trace r (i ∷ is) p =
     (called p i.call clock old (record { outcome = t.outcome; session = t.session }) t.output (record { answers = refl; hands_back = refl; leaves = refl }))
 
 pub ran : (is : List Input) → Trace (run start is).session (run start is).journal
-unfolding open_of default_config texts_sound text_sound storedText stored utf8 octets any_row
+unfolding open_of default_config texts_sound text_sound stored_text stored utf8 octets any_row
 ran is = run-trace start is (opened default_config (open_of default_config) refl refl)
 
 -- ---- computing: which free place a request takes is sealed, and where it is looked into, it is the first
@@ -80,8 +80,8 @@ module _ (s : ClientSession) (clock : RtmpTimestamp) where
   plan_first (connect app) = request_first (unless_disconnected s) ConnectionRequested app (connect_next s app)
   plan_first (play key) = request_first (unless_stage is_connected s) (CreateStream PlayRequest) key (create_next s)
   plan_first (publish key t) = request_first (unless_stage is_connected s) (CreateStream (PublishRequest t)) key (create_next s)
-  plan_first stopPlayback = plan s clock stopPlayback
-  plan_first stopPublishing = plan s clock stopPublishing
+  plan_first stop_playback = plan s clock stop_playback
+  plan_first stop_publishing = plan s clock stop_publishing
   plan_first ping = plan s clock ping
   plan_first (picture b t d) = plan s clock (picture b t d)
   plan_first (sound b t d) = plan s clock (sound b t d)
@@ -94,8 +94,8 @@ module _ (s : ClientSession) (clock : RtmpTimestamp) where
   plan-first (connect app) = request-first _ _ app _
   plan-first (play key) = request-first _ _ key _
   plan-first (publish key t) = request-first _ _ key _
-  plan-first stopPlayback = refl
-  plan-first stopPublishing = refl
+  plan-first stop_playback = refl
+  plan-first stop_publishing = refl
   plan-first ping = refl
   plan-first (picture b t d) = refl
   plan-first (sound b t d) = refl
@@ -124,7 +124,7 @@ run-first r (i ∷ is) =
 -- ---- the table
 
 computed : map (λ r. end_of (run_first start r.calls)) rows ≡ map (λ r. r.ends) rows
-unfolding field uint digits same any_row octets utf8 marker_of text_of name_of properties values content value to_end text_bytes encode encode_props encode_values last_of properties_of properties_at text_kind kind_after kind_at text_found text_of_property stretch event_of user_control_of text_only number_only command_of after_zero decode code_is code_of commandName argument_of first_of placed connect_body create_stream_body delete_stream_body play_body publish_body control_body command_in requested first_number deletes open_count lookup without first_free has_number place_sound places_sound none requests_sound closed fits storedText text_sound stored in_turn sent_by bodies outcome_of default_config texts_sound is_session fresh open_of in_order stop published ping_plan count on_message plan fitted away_by results_of messages_in line_of number_sent delete_sent message_said said_well said open_by rule_open mark_by mark found_or latest any_since stage_by stage_of rule_stage grant_at active_of rule_active run_first of_bits to_bits of_int round to_unsigned
+unfolding field uint digits same any_row octets utf8 marker_of text_of name_of properties values content value to_end text_bytes encode encode_props encode_values last_of properties_of properties_at text_kind kind_after kind_at text_found text_of_property stretch event_of user_control_of text_only number_only command_of after_zero decode code_is code_of command_name argument_of first_of placed connect_body create_stream_body delete_stream_body play_body publish_body control_body command_in requested first_number deletes open_count lookup without first_free has_number place_sound places_sound none requests_sound closed fits stored_text text_sound stored in_turn sent_by bodies outcome_of default_config texts_sound is_session fresh open_of in_order stop published ping_plan count on_message plan fitted away_by results_of messages_in line_of number_sent delete_sent message_said said_well said open_by rule_open mark_by mark found_or latest any_since stage_by stage_of rule_stage grant_at active_of rule_active run_first of_bits to_bits of_int round to_unsigned
 computed = refl
 
 at : (rs : List Row) (r : Row) → map (λ r. end_of (run_first start r.calls)) rs ≡ map (λ r. r.ends) rs → Memᴰ r rs → end_of (run start r.calls) ≡ r.ends

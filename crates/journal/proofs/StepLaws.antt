@@ -14,7 +14,7 @@ use borrow.Author.Tests.{eqb-true, eq-eqb, not-true}
 use Rattle.messages.specs.declared.ids.RtmpTimestamp.{RtmpTimestamp}
 use Rattle.messages.specs.declared.ids.StreamNumber.{StreamNumber}
 use Rattle.requests.proofs.BoolLaws.{by_cases, and_left, and_right}
-use Rattle.session.specs.Calls.{Call, connect, play, publish, stopPlayback, stopPublishing, ping, picture, sound, metadata, bytes, message, Message, Results, one, two, accepts, pinged}
+use Rattle.session.specs.Calls.{Call, connect, play, publish, stop_playback, stop_publishing, ping, picture, sound, metadata, bytes, message, Message, Results, one, two, accepts, pinged}
 use Rattle.session.specs.Calls as calls
 use Rattle.session.specs.Numbers.{refusal_number}
 use Rattle.session.specs.Outcomes.{in_turn, sent_by, output, written, outcome_of}
@@ -172,8 +172,8 @@ module _ (s : ClientSession) (old : List ℕ) where
   plan-two clock (connect app) h = absurd (true≢false (sym h))
   plan-two clock (play key) h = absurd (true≢false (sym h))
   plan-two clock (publish key t) h = absurd (true≢false (sym h))
-  plan-two clock stopPlayback h = absurd (true≢false (sym h))
-  plan-two clock stopPublishing h = absurd (true≢false (sym h))
+  plan-two clock stop_playback h = absurd (true≢false (sym h))
+  plan-two clock stop_publishing h = absurd (true≢false (sym h))
   plan-two clock ping h = absurd (true≢false (sym h))
   plan-two clock (sound b t d) h = absurd (true≢false (sym h))
   plan-two clock (metadata m text) h = absurd (true≢false (sym h))

@@ -10,11 +10,11 @@ use mathlib.Core.Option.{Option, none, some}
 use native.Mathlib.Omega.{arith}
 use Rattle.messages.specs.declared.ids.RtmpTimestamp.{RtmpTimestamp}
 use Rattle.requests.specs.Places.{Request, lookup}
-use Rattle.requests.specs.Table.{none as noRequests}
+use Rattle.requests.specs.Table.{none as no_requests}
 use Rattle.requests.specs.declared.outstanding_transaction.OutstandingTransaction.{OutstandingTransaction}
 use Rattle.requests.specs.declared.place.Slot.TheVariants as slot
 use Rattle.requests.proofs.BoolLaws.{by_cases}
-use Rattle.requests.proofs.PlaceLaws.{opened as openedPlace, found_in, in-found}
+use Rattle.requests.proofs.PlaceLaws.{opened as opened_place, found_in, in-found}
 use Rattle.requests.proofs.TableLaws.{sound as sound-facts}
 use Rattle.session.specs.Calls.{Call}
 use Rattle.session.specs.Contract.{Does}
@@ -82,11 +82,11 @@ opening c =
     by_cases (texts_sound c) (λ p. by_cases (chunk_sound c.chunk_size) (λ q. rw (p, q)) (λ q. rw (p, q))) (λ p. rw p)
 
 fresh-agrees : (c : ClientSessionConfig) → Sound (fresh c) → Agrees (fresh c) []
-unfolding fresh rule_stage stage_of rule_active active_of latest rule_open lookup noRequests
+unfolding fresh rule_stage stage_of rule_active active_of latest rule_open lookup no_requests
 fresh-agrees c h = record { stage_agrees = refl; active_agrees = refl; open_agrees = λ n. refl; sound = h }
 
 numbers-first : (c : ClientSessionConfig) → Numbered (fresh c) []
-unfolding fresh given_in noRequests
+unfolding fresh given_in no_requests
 numbers-first c = record { each = each_none NumberRises; due = refl }
 
 -- ---- all of it
@@ -151,7 +151,7 @@ open-held s n k e = at (lookup n s.requests.places) refl e
     at none q e = let z : ◌≡◌ {A = ℕ} 0 1 = cc in absurd (omega arith)
     at (some r) q e =
         record {
-          place = openedPlace n r.kind r.text;
+          place = opened_place n r.kind r.text;
           among = found_in n s.requests.places q;
           is = let f : r.kind ≡ k = cc in ap (slot.Open (record { 0 = n })) f;
         }

@@ -6,7 +6,7 @@ use Rattle.std.proofs.Math.Option.{Option, none, some}
 use Rattle.requests.specs.declared.outstanding_transaction.OutstandingTransaction.{OutstandingTransaction}
 use Rattle.requests.specs.declared.place.Place.{Place}
 use Rattle.requests.specs.declared.place.Slot.TheVariants as slot
-use Rattle.session.specs.Calls.{Call, connect, play, publish, stopPlayback, stopPublishing, ping, picture, sound, metadata, bytes, message, Message}
+use Rattle.session.specs.Calls.{Call, connect, play, publish, stop_playback, stop_publishing, ping, picture, sound, metadata, bytes, message, Message}
 use Rattle.session.specs.declared.record.ActiveStream.{ActiveStream}
 use Rattle.session.specs.declared.record.ActiveStream.TheVariants as active
 use Rattle.session.specs.declared.record.ClientSession.{ClientSession}
@@ -19,8 +19,8 @@ is_picture (picture b t d) = true
 is_picture (connect app) = false
 is_picture (play key) = false
 is_picture (publish key t) = false
-is_picture stopPlayback = false
-is_picture stopPublishing = false
+is_picture stop_playback = false
+is_picture stop_publishing = false
 is_picture ping = false
 is_picture (sound b t d) = false
 is_picture (metadata m text) = false

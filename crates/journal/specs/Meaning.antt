@@ -8,7 +8,7 @@ use Rattle.requests.specs.declared.outstanding_transaction.OutstandingTransactio
 use Rattle.requests.specs.declared.outstanding_transaction.TransactionPurpose.{TransactionPurpose}
 use Rattle.session.specs.declared.state.ClientState.TheVariants.{Disconnected, Connected}
 use Rattle.journal.specs.Lines.{Line, Journal, Each}
-use Rattle.journal.specs.Rule.{Said, nothing, asked, resulted, failed, startedPlay, startedPublish, deleted, said, Mark, accepted, grant, stopped, mark, grant_at, is_own, is_deleted, requested_stage, running_stage, rule_stage, rule_active, rule_open, latest_grant}
+use Rattle.journal.specs.Rule.{Said, nothing, asked, resulted, failed, started_play, started_publish, deleted, said, Mark, accepted, grant, stopped, mark, grant_at, is_own, is_deleted, requested_stage, running_stage, rule_stage, rule_active, rule_open, latest_grant}
 
 -- "the latest line that is": it stands in the journal, and no later line is one, each judged by the lines before it
 pub record Latest {A : Type 0} (is : Line → Journal → Option A) (j : Journal) (a : A) : Type 0 where
@@ -35,8 +35,8 @@ reply_number nothing = none
 reply_number (asked n k) = none
 reply_number (resulted n x) = some n
 reply_number (failed n) = some n
-reply_number startedPlay = none
-reply_number startedPublish = none
+reply_number started_play = none
+reply_number started_publish = none
 reply_number deleted = none
 
 -- "a request line that wasn't turned away gave it and no later `_result` or `_error` line has that held number"

@@ -21,7 +21,7 @@ use Rattle.requests.specs.declared.outstanding_transaction.OutstandingTransactio
 use Rattle.requests.specs.declared.outstanding_transaction.OutstandingTransaction.TheVariants.{ConnectionRequested, CreateStream}
 use Rattle.requests.specs.declared.outstanding_transaction.TransactionPurpose.{TransactionPurpose}
 use Rattle.requests.specs.declared.outstanding_transaction.TransactionPurpose.TheVariants.{PlayRequest, PublishRequest}
-use Rattle.session.specs.Calls.{Call, connect, play, publish, stopPlayback, stopPublishing, ping, picture, sound, metadata, bytes, message, Message}
+use Rattle.session.specs.Calls.{Call, connect, play, publish, stop_playback, stop_publishing, ping, picture, sound, metadata, bytes, message, Message}
 use Rattle.session.specs.declared.state.ClientState.{ClientState}
 use Rattle.session.specs.declared.state.ClientState.TheVariants.{Disconnected, Connected, PlayRequested, Playing, PublishRequested, Publishing}
 use Rattle.journal.specs.Lines.{Line, Journal}
@@ -37,7 +37,7 @@ pub data Said : Type 0 where
   -- an `_error`, or a reply that was turned away by 4 or 5: its held number
   failed : ℕ → Said
   -- a Start notice
-  startedPlay startedPublish : Said
+  started_play started_publish : Said
   -- a stop that sent deleteStream
   deleted : Said
 
@@ -71,8 +71,8 @@ grant_number argument.Other = none
 
 -- "Notice: an onStatus message with a code"
 abbrev pub notice_said : OnStatus → Said
-notice_said status.PlayStart = startedPlay
-notice_said status.PublishStart = startedPublish
+notice_said status.PlayStart = started_play
+notice_said status.PublishStart = started_publish
 notice_said (status.Other start len) = nothing
 notice_said status.Invalid = nothing
 
@@ -92,8 +92,8 @@ unfoldable pub said_well : Call → List Message → Said
 said_well (connect app) ms = asked_for ConnectionRequested (number_sent ms)
 said_well (play key) ms = asked_for (CreateStream PlayRequest) (number_sent ms)
 said_well (publish key t) ms = asked_for (CreateStream (PublishRequest t)) (number_sent ms)
-said_well stopPlayback ms = stop_said ms
-said_well stopPublishing ms = stop_said ms
+said_well stop_playback ms = stop_said ms
+said_well stop_publishing ms = stop_said ms
 said_well ping ms = nothing
 said_well (picture b t d) ms = nothing
 said_well (sound b t d) ms = nothing
@@ -107,8 +107,8 @@ closes_only (resulted n x) = failed n
 closes_only (failed n) = failed n
 closes_only nothing = nothing
 closes_only (asked n k) = nothing
-closes_only startedPlay = nothing
-closes_only startedPublish = nothing
+closes_only started_play = nothing
+closes_only started_publish = nothing
 closes_only deleted = nothing
 
 -- "A turned-away line counts for nothing, except that 4 and 5 close."
@@ -128,8 +128,8 @@ open_by nothing n older = older
 open_by (asked m k) n older = cond (eqb m n) (some k) older
 open_by (resulted m x) n older = cond (eqb m n) none older
 open_by (failed m) n older = cond (eqb m n) none older
-open_by startedPlay n older = older
-open_by startedPublish n older = older
+open_by started_play n older = older
+open_by started_publish n older = older
 open_by deleted n older = older
 
 -- the kind and purpose that the open number n was asked for
@@ -159,8 +159,8 @@ mark_by nothing older = none
 mark_by (asked n k) older = none
 mark_by (resulted n x) older = mark_reply x (rule_open older n)
 mark_by (failed n) older = none
-mark_by startedPlay older = none
-mark_by startedPublish older = none
+mark_by started_play older = none
+mark_by started_publish older = none
 mark_by deleted older = some stopped
 
 unfoldable pub mark : Line → Journal → Option Mark
@@ -189,10 +189,10 @@ any_since is (l ∷ ls) = is (said l) || any_since is ls
 
 -- "its own Start notice"
 abbrev pub is_own : TransactionPurpose → Said → Bool
-is_own PlayRequest startedPlay = true
-is_own (PublishRequest t) startedPlay = false
-is_own PlayRequest startedPublish = false
-is_own (PublishRequest t) startedPublish = true
+is_own PlayRequest started_play = true
+is_own (PublishRequest t) started_play = false
+is_own PlayRequest started_publish = false
+is_own (PublishRequest t) started_publish = true
 is_own p nothing = false
 is_own p (asked n k) = false
 is_own p (resulted n x) = false
@@ -238,8 +238,8 @@ is_deleted nothing = false
 is_deleted (asked n k) = false
 is_deleted (resulted n x) = false
 is_deleted (failed n) = false
-is_deleted startedPlay = false
-is_deleted startedPublish = false
+is_deleted started_play = false
+is_deleted started_publish = false
 is_deleted deleted = true
 
 -- "The active stream is the latest grant's number, absent if there is none or such a stop came since."

@@ -13,7 +13,7 @@ use Rattle.messages.specs.declared.ids.StreamNumber.{StreamNumber}
 use Rattle.messages.specs.declared.publish_request_type.PublishRequestType.TheVariants.{Live}
 use Rattle.bodies.specs.Bodies.{connect_body, delete_stream_body, publish_body}
 use Rattle.requests.specs.declared.outstanding_transaction.OutstandingTransaction.{OutstandingTransaction}
-use Rattle.session.specs.Calls.{Call, connect, play, publish, stopPlayback, stopPublishing, ping, picture, bytes, message, Message, plain, on_stream}
+use Rattle.session.specs.Calls.{Call, connect, play, publish, stop_playback, stop_publishing, ping, picture, bytes, message, Message, plain, on_stream}
 use Rattle.session.specs.Numbers.{event_place}
 use Rattle.session.specs.declared.events.ClientSessionEvent.TheVariants.{ConnectionRequestAccepted}
 use Rattle.session.specs.Record.{default_config, open_of}
@@ -197,13 +197,13 @@ rows =
     ∷ row (publishing ++ (shows ∷ []))
     (sending Publishing (some 6) [] (passes 6)
     (record { type_id = 9; time = time 40; stream = stream 6; droppable = true; uncompressed = false; body = 0x17 ∷ 0x01 ∷ [] }))
-    ∷ row (publishing ++ (plainly stopPublishing ∷ [])) (sending Connected none [] (passes 6) (on_stream 20 (time 0) (stream 6) (delete_stream_body 6)))
+    ∷ row (publishing ++ (plainly stop_publishing ∷ [])) (sending Connected none [] (passes 6) (on_stream 20 (time 0) (stream 6) (delete_stream_body 6)))
     -- a picture before the Start notice, and before anything
     ∷ row (connected ++ (publishes ∷ grants 2 6 ∷ shows ∷ [])) (silently PublishRequested (some 6) [] (some 2 ∷ passes 4))
     ∷ row (shows ∷ []) (silently Disconnected none [] (some 2 ∷ []))
     -- a second connect reply while Playing keeps the active stream. Starred: a stop at Connected is an empty success
     ∷ row playing (raising Playing (some 5) (2 ∷ []) (passes 6) 2)
-    ∷ row (playing ++ (result 2 ∷ plainly stopPlayback ∷ [])) (silently Connected (some 5) [] (passes 8))
+    ∷ row (playing ++ (result 2 ∷ plainly stop_playback ∷ [])) (silently Connected (some 5) [] (passes 8))
     -- a second createStream reply while Playing is granted
     ∷ row (connected ++ (plays ∷ publishes ∷ grants 2 1 ∷ notice "NetStream.Play.Start" ∷ grants 3 2 ∷ []))
     (sending PublishRequested (some 2) [] (passes 7) (on_stream 20 (time 0) (stream 2) (publish_body (ascii "key") Live)))

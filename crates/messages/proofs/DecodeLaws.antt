@@ -10,7 +10,7 @@ use lib.ListN.{drop}
 use borrow.Author.Tests.{eqb-true}
 use Rattle.octets.specs.Parse.{Parse, bad, got, and_then}
 use Rattle.octets.specs.BigEndian.{uint}
-use Rattle.messages.specs.Incoming.{Incoming, malformed, setChunkSize, abort, acknowledgement, windowSize, peer_bandwidth, user_control, command, values, audio, video, unknown, Command, Data, whole, bandwidth_of, event_of, user_control_of, command_of, after_zero, data_of, decode}
+use Rattle.messages.specs.Incoming.{Incoming, malformed, set_chunk_size, abort, acknowledgement, window_size, peer_bandwidth, user_control, command, values, audio, video, unknown, Command, Data, whole, bandwidth_of, event_of, user_control_of, command_of, after_zero, data_of, decode}
 use Rattle.messages.specs.Steps.{leading_zero}
 use Rattle.messages.specs.declared.rtmp_message.PeerBandwidthLimitType.{PeerBandwidthLimitType}
 use Rattle.messages.specs.declared.rtmp_message.UserControlEvent.{UserControlEvent}
@@ -32,10 +32,10 @@ module _ (P : Incoming → Type 0) where
   -- what a body of type t says: a command starts at the first byte, or in type 17 past one leading 0
   pub record Cases (t : ℕ) (s : List ℕ) : Type 0 where
     pub malformeds : P malformed
-    pub chunk_sizes : (n : ℕ) → P (setChunkSize n)
+    pub chunk_sizes : (n : ℕ) → P (set_chunk_size n)
     pub aborts : (n : ℕ) → P (abort n)
     pub acknowledgements : (n : ℕ) → P (acknowledgement n)
-    pub windows : (n : ℕ) → P (windowSize n)
+    pub windows : (n : ℕ) → P (window_size n)
     pub bandwidths : (n : ℕ) (l : PeerBandwidthLimitType) → P (peer_bandwidth n l)
     pub events : (e : UserControlEvent) → P (user_control e)
     pub audios : P audio
@@ -47,11 +47,11 @@ module _ (P : Incoming → Type 0) where
   pub decode-cases : (t : ℕ) (s : List ℕ) → Cases t s → P (decode t s)
   unfolding decode user_control_of
   decode-cases t s h =
-      type-is t 1 _ _ (λ e. whole_is setChunkSize (uint 4 s) h.malformeds (λ n q. h.chunk_sizes n))
+      type-is t 1 _ _ (λ e. whole_is set_chunk_size (uint 4 s) h.malformeds (λ n q. h.chunk_sizes n))
       (type-is t 2 _ _ (λ e. whole_is abort (uint 4 s) h.malformeds (λ n q. h.aborts n))
       (type-is t 3 _ _ (λ e. whole_is acknowledgement (uint 4 s) h.malformeds (λ n q. h.acknowledgements n))
       (type-is t 4 _ _ (λ e. whole_is user_control (and_then (uint 2 s) event_of) h.malformeds (λ n q. h.events n))
-      (type-is t 5 _ _ (λ e. whole_is windowSize (uint 4 s) h.malformeds (λ n q. h.windows n))
+      (type-is t 5 _ _ (λ e. whole_is window_size (uint 4 s) h.malformeds (λ n q. h.windows n))
       (type-is t 6 _ _ (λ e. whole_is (λ b. peer_bandwidth b.size b.limit) (bandwidth_of s) h.malformeds (λ b q. h.bandwidths b.size b.limit))
       (type-is t 8 _ _ (λ e. h.audios)
       (type-is t 9 _ _ (λ e. h.videos)

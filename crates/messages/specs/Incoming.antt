@@ -31,7 +31,7 @@ pub record Data : Type 0 where
 
 pub data Incoming : Type 0 where
   malformed : Incoming
-  setChunkSize abort acknowledgement windowSize : ℕ → Incoming
+  set_chunk_size abort acknowledgement window_size : ℕ → Incoming
   peer_bandwidth : ℕ → PeerBandwidthLimitType → Incoming
   user_control : UserControlEvent → Incoming
   command : Command → Incoming
@@ -135,11 +135,11 @@ data_of s = and_then (all_values s) (λ vs r. got (record { values = vs; after_f
 -- by the message type: sections 5.4.1 to 5.4.5 and 7.1.1 to 7.1.7
 unfoldable pub decode : ℕ → List ℕ → Incoming
 decode t s =
-    cond (eqb t (type_number type.setChunkSize)) (whole setChunkSize (uint 4 s))
+    cond (eqb t (type_number type.set_chunk_size)) (whole set_chunk_size (uint 4 s))
     (cond (eqb t (type_number type.abort)) (whole abort (uint 4 s))
     (cond (eqb t (type_number type.acknowledgement)) (whole acknowledgement (uint 4 s))
     (cond (eqb t (type_number type.user_control)) (user_control_of s)
-    (cond (eqb t (type_number type.windowSize)) (whole windowSize (uint 4 s))
+    (cond (eqb t (type_number type.window_size)) (whole window_size (uint 4 s))
     (cond (eqb t (type_number type.peer_bandwidth)) (whole (λ b. peer_bandwidth b.size b.limit) (bandwidth_of s))
     (cond (eqb t (type_number type.audio)) audio
     (cond (eqb t (type_number type.video)) video

@@ -8,16 +8,16 @@ use Rattle.messages.specs.declared.rtmp_message.UserControlEvent.TheVariants.{St
 
 -- the message types that have a meaning here; every other is unknown
 pub data MessageType : Type 0 where
-  setChunkSize abort acknowledgement user_control windowSize peer_bandwidth : MessageType
+  set_chunk_size abort acknowledgement user_control window_size peer_bandwidth : MessageType
   audio video amf3Data amf3Command amf0Data amf0Command : MessageType
 
 -- sections 5.4.1 to 5.4.5, user control messages in 6.2 and 7.1.7; audio in 7.1.4 and video in 7.1.5; data in 7.1.2; commands in 7.1.1
 abbrev pub type_number : MessageType → ℕ
-type_number setChunkSize = 1
+type_number set_chunk_size = 1
 type_number abort = 2
 type_number acknowledgement = 3
 type_number user_control = 4
-type_number windowSize = 5
+type_number window_size = 5
 type_number peer_bandwidth = 6
 type_number audio = 8
 type_number video = 9

@@ -4,7 +4,7 @@ use Rattle.std.specs.Prelude.{ℕ, ◌-◌, Bool, false, cond, List, length}
 use Rattle.octets.specs.Parse.{place_of}
 use Rattle.octets.specs.Compare.{ascii, same}
 use Rattle.amf0.specs.Value.{Value, number, boolean, text, object, null, undefined, strict, Values, nil, cons}
-use Rattle.messages.specs.Incoming.{Incoming, malformed, setChunkSize, abort, acknowledgement, windowSize, peer_bandwidth, user_control, command, values, audio, video, unknown, Command}
+use Rattle.messages.specs.Incoming.{Incoming, malformed, set_chunk_size, abort, acknowledgement, window_size, peer_bandwidth, user_control, command, values, audio, video, unknown, Command}
 use Rattle.messages.specs.declared.rtmp_message.CommandName.{CommandName}
 use Rattle.messages.specs.declared.rtmp_message.CommandName.TheVariants as name
 use Rattle.messages.specs.declared.rtmp_message.Argument.{Argument}
@@ -70,10 +70,10 @@ data_at p (cons v vs) = cond (is_on_meta_data v) (if_object p (first_of vs)) sai
 
 unfoldable pub placed : List ℕ → Incoming → RtmpMessage
 placed s malformed = message.Malformed
-placed s (setChunkSize n) = message.SetChunkSize n
+placed s (set_chunk_size n) = message.SetChunkSize n
 placed s (abort n) = message.Abort n
 placed s (acknowledgement n) = message.Acknowledgement n
-placed s (windowSize n) = message.WindowAcknowledgement n
+placed s (window_size n) = message.WindowAcknowledgement n
 placed s (peer_bandwidth n l) = message.SetPeerBandwidth n l
 placed s (user_control e) = message.UserControl e
 placed s (command c) = message.Amf0Command (command_at s c)

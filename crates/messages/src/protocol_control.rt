@@ -1,7 +1,7 @@
 // Bodies of types 1, 2, 3, 5 and 6.
 ghost use Rattle.std.specs.Prelude.{cond, ◌≡◌, eqb, length, drop};
 ghost use Rattle.octets.specs.BigEndian.{be, uint};
-ghost use Rattle.messages.specs.Incoming.{whole, setChunkSize, abort as abortOf, acknowledgement as acknowledgementOf, windowSize, peer_bandwidth, bandwidth_of};
+ghost use Rattle.messages.specs.Incoming.{whole, set_chunk_size, abort as abort_of, acknowledgement as acknowledgement_of, window_size, peer_bandwidth, bandwidth_of};
 ghost use Rattle.messages.specs.Places.{placed};
 
 use crate::rtmp_message::{PeerBandwidthLimitType, RtmpMessage};
@@ -21,7 +21,7 @@ pub fn last_word(body: &[u8], at: usize) -> Be32
 }
 
 pub fn set_chunk_size(body: &[u8]) -> RtmpMessage
-    ensures { result ≡ placed body.now (whole setChunkSize (uint 4 body.now)) }
+    ensures { result ≡ placed body.now (whole set_chunk_size (uint 4 body.now)) }
 {
     match last_word(body, 0) {
         Be32::Is(size) => RtmpMessage::SetChunkSize(size),
@@ -30,7 +30,7 @@ pub fn set_chunk_size(body: &[u8]) -> RtmpMessage
 }
 
 pub fn abort(body: &[u8]) -> RtmpMessage
-    ensures { result ≡ placed body.now (whole abortOf (uint 4 body.now)) }
+    ensures { result ≡ placed body.now (whole abort_of (uint 4 body.now)) }
 {
     match last_word(body, 0) {
         Be32::Is(stream) => RtmpMessage::Abort(stream),
@@ -39,7 +39,7 @@ pub fn abort(body: &[u8]) -> RtmpMessage
 }
 
 pub fn acknowledgement(body: &[u8]) -> RtmpMessage
-    ensures { result ≡ placed body.now (whole acknowledgementOf (uint 4 body.now)) }
+    ensures { result ≡ placed body.now (whole acknowledgement_of (uint 4 body.now)) }
 {
     match last_word(body, 0) {
         Be32::Is(count) => RtmpMessage::Acknowledgement(count),
@@ -48,7 +48,7 @@ pub fn acknowledgement(body: &[u8]) -> RtmpMessage
 }
 
 pub fn window_acknowledgement(body: &[u8]) -> RtmpMessage
-    ensures { result ≡ placed body.now (whole windowSize (uint 4 body.now)) }
+    ensures { result ≡ placed body.now (whole window_size (uint 4 body.now)) }
 {
     match last_word(body, 0) {
         Be32::Is(size) => RtmpMessage::WindowAcknowledgement(size),

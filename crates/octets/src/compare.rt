@@ -1,6 +1,6 @@
 // Parts of a slice, and byte strings compared.
 ghost use Rattle.std.specs.Prelude.{◌≡◌};
-ghost use Rattle.octets.specs.Compare.{same as sameOf, part as part_of};
+ghost use Rattle.octets.specs.Compare.{same as same_of, part as part_of};
 
 // The part of s that starts at `start` and has `len` bytes, or those of them that are there.
 pub fn part(s: &[u8], start: usize, len: usize) -> &[u8]
@@ -16,7 +16,7 @@ pub fn part(s: &[u8], start: usize, len: usize) -> &[u8]
 }
 
 pub fn same(a: &[u8], b: &[u8]) -> bool
-    ensures { result ≡ sameOf a.now b.now }
+    ensures { result ≡ same_of a.now b.now }
 {
     if a.len() != b.len() {
         return false;
@@ -33,7 +33,7 @@ pub fn same(a: &[u8], b: &[u8]) -> bool
 
 // Whether that part of s is the name.
 pub fn part_is(s: &[u8], start: usize, len: usize, name: &[u8]) -> bool
-    ensures { result ≡ sameOf (part_of s.now start len) name.now }
+    ensures { result ≡ same_of (part_of s.now start len) name.now }
 {
     same(part(s, start, len), name)
 }

@@ -30,8 +30,8 @@ pub fn put_be16(out: &mut [u8], at: usize, n: u16) -> usize
 }
 
 pub fn put_be24(out: &mut [u8], at: usize, n: u32) -> usize
-    requires fact_1 { n < 2 ^ 24 }
-    requires fact_2 { at + 3 ≤ length out.old }
+    requires in_range { n < 2 ^ 24 }
+    requires room { at + 3 ≤ length out.old }
     ensures put { Put out.old at (digits 3 n) out.new result }
     ensures value { result ≡ at + 3 }
 {

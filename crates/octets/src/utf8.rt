@@ -78,7 +78,7 @@ fn eight(s: &[u8], at: usize) -> bool
 // A place up to which all bytes are below 80, which most texts are to their end: eight are looked at in a turn.
 fn ascii(s: &[u8]) -> usize
     ensures upper_bound { result ≤ length s.now }
-    ensures s_value { utf8 s.now ≡ octets (drop result s.now) [] }
+    ensures rest { utf8 s.now ≡ octets (drop result s.now) [] }
 {
     let mut i: usize = 0;
     while i < s.len() {

@@ -1,6 +1,6 @@
 // One of the eight places, and the searches through all of them.
 ghost use Rattle.std.specs.Prelude.{◌≡◌, cond, List, drop};
-ghost use Rattle.requests.specs.Places.{empty_place, is_free, open_as, lookup, without as withoutOf, free_place, place_sound, places_sound, all_free};
+ghost use Rattle.requests.specs.Places.{empty_place, is_free, open_as, lookup, without as without_of, free_place, place_sound, places_sound, all_free};
 ghost use Rattle.requests.specs.Search.{request_in, number_of, numbers_of, among};
 
 use crate::outstanding_transaction::OutstandingTransaction;
@@ -93,7 +93,7 @@ fn emptied(place: Place, number: u32) -> Place
 
 // The places with the request under the number closed.
 pub fn without(places: [Place; 8], number: u32) -> [Place; 8]
-    ensures { result ≡ withoutOf number places }
+    ensures { result ≡ without_of number places }
 {
     let mut rest = places;
     let mut i: usize = 0;

@@ -1,6 +1,6 @@
 // The table of open requests, and the number that is due next.
 ghost use Rattle.std.specs.Prelude.{◌≡◌};
-ghost use Rattle.requests.specs.Table.{requests_sound, none as noneOf, take_of, close_of};
+ghost use Rattle.requests.specs.Table.{requests_sound, none as none_of, take_of, close_of};
 
 use crate::outstanding_transaction::OutstandingTransaction;
 use crate::place::{Place, Slot, empty_place, find, first_free, places_sound, without};
@@ -45,7 +45,7 @@ pub struct Closed {
 impl Requests {
     // No request open, and 1 the next number.
     pub fn new() -> Requests
-        ensures { result ≡ noneOf }
+        ensures { result ≡ none_of }
     {
         let place = empty_place();
         Requests {

@@ -31,7 +31,7 @@ pub(crate) enum Part {
 // Where the first b from `at` on stands, or the end.
 pub fn find(s: &[u8], at: usize, b: u8) -> usize
     ensures value { result ≡ at + until b (drop at s.now) }
-    ensures lower_bound { (at ≤ result) × (result ≤ at + (length s.now - at)) }
+    ensures within { (at ≤ result) × (result ≤ at + (length s.now - at)) }
 {
     let mut i = at;
     while i < s.len() {

@@ -1,6 +1,6 @@
 // The verbs, and the words for what is published.
 ghost use Rattle.std.specs.Prelude.{◌≡◌, cond};
-ghost use Rattle.octets.specs.Compare.{same as sameOf};
+ghost use Rattle.octets.specs.Compare.{same as same_of};
 ghost use Rattle.script.specs.Verbs.{main_verb, call_verb, verb_of, publish_type};
 
 use messages::PublishRequestType;
@@ -31,7 +31,7 @@ pub(crate) enum OptionPublishType {
 
 // yes where s is the name, else no.
 fn choose(s: &[u8], name: &[u8], yes: Verb, no: Verb) -> Verb
-    ensures { result ≡ cond (sameOf s.now name.now) yes no }
+    ensures { result ≡ cond (same_of s.now name.now) yes no }
 {
     if octets::same(s, name) {
         return yes;

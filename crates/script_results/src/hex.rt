@@ -1,6 +1,6 @@
 // Hexadecimal text, written in lower case.
 ghost use Rattle.std.specs.Prelude.{◌≡◌, ◌+◌, ◌*◌, ◌≤◌, ◌<◌, length};
-ghost use Rattle.io.specs.Digits.{hex_digit_ascii as glyphOf};
+ghost use Rattle.io.specs.Digits.{hex_digit_ascii as glyph_of};
 ghost use Rattle.octets.specs.Output.{Put};
 ghost use Rattle.script_results.specs.Hex.{hex_text};
 ghost use Rattle.script_results.specs.Output.{WrittenAt};
@@ -9,7 +9,7 @@ use octets::Wrote;
 
 fn glyph(d: u8) -> u8
     requires { d < 16 }
-    ensures { result ≡ glyphOf d }
+    ensures { result ≡ glyph_of d }
 {
     if d < 10 {
         return 48 + d;

@@ -7,7 +7,7 @@ use Rattle.amf0.specs.declared.properties.TextAt.{TextAt}
 use Rattle.amf0.specs.declared.properties.TextAt.TheVariants as text
 use Rattle.messages.specs.declared.ids.RtmpTimestamp.{RtmpTimestamp}
 use Rattle.requests.specs.Texts.{stored}
-use Rattle.session.specs.Calls.{Call, connect, play, publish, stopPlayback, stopPublishing, ping, picture, sound, metadata, bytes, message}
+use Rattle.session.specs.Calls.{Call, connect, play, publish, stop_playback, stop_publishing, ping, picture, sound, metadata, bytes, message}
 use Rattle.session.specs.Record.{default_config, open_of}
 use Rattle.session.specs.Step.{step}
 use Rattle.session.specs.declared.config.ClientSessionConfig.{ClientSessionConfig}
@@ -89,8 +89,8 @@ asks space s (line.Msg clock kind time stream at) = with_body clock (message kin
 asks space s (line.Connect clock at) = calls clock (connect (text_at s at))
 asks space s (line.Play clock at) = calls clock (play (text_at s at))
 asks space s (line.Publish clock at kind) = calls clock (publish (text_at s at) kind)
-asks space s (line.StopPlayback clock) = calls clock stopPlayback
-asks space s (line.StopPublishing clock) = calls clock stopPublishing
+asks space s (line.StopPlayback clock) = calls clock stop_playback
+asks space s (line.StopPublishing clock) = calls clock stop_publishing
 asks space s (line.Ping clock) = calls clock ping
 asks space s (line.Video clock time droppable at) = with_body clock (λ b. picture b time droppable) (body_of space (text_at s at))
 asks space s (line.Audio clock time droppable at) = with_body clock (λ b. sound b time droppable) (body_of space (text_at s at))

@@ -1,5 +1,5 @@
 // The calls without a body. Their texts are places in the line s.
-ghost use Rattle.session.specs.Calls.{connect, play, publish, stopPlayback, stopPublishing, ping, bytes};
+ghost use Rattle.session.specs.Calls.{connect, play, publish, stop_playback, stop_publishing, ping, bytes};
 ghost use Rattle.script.specs.Metadata.{metadata_line};
 ghost use Rattle.script_run.specs.Asked.{calls, text_at, with_metadata, Runs};
 
@@ -65,14 +65,14 @@ pub(crate) fn request_publishing(
 }
 
 pub(crate) fn stop_playback(session: ClientSession, clock: RtmpTimestamp, out: &mut [u8]) -> Ran
-    ensures { Runs session out.old (calls clock stopPlayback) result out.new }
+    ensures { Runs session out.old (calls clock stop_playback) result out.new }
 {
     let called = session.stop_playback(clock, out);
     told(called)
 }
 
 pub(crate) fn stop_publishing(session: ClientSession, clock: RtmpTimestamp, out: &mut [u8]) -> Ran
-    ensures { Runs session out.old (calls clock stopPublishing) result out.new }
+    ensures { Runs session out.old (calls clock stop_publishing) result out.new }
 {
     let called = session.stop_publishing(clock, out);
     told(called)

@@ -11,7 +11,7 @@ pub data Call : Type 0 where
   -- an app name; a stream key
   connect play : List ℕ → Call
   publish : List ℕ → PublishRequestType → Call
-  stopPlayback stopPublishing ping : Call
+  stop_playback stop_publishing ping : Call
   -- the body, the caller's time, whether it may be dropped
   picture sound : List ℕ → RtmpTimestamp → Bool → Call
   -- the fields, and the bytes that the encoder's text lies in

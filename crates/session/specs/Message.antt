@@ -8,7 +8,7 @@ use Rattle.amf0.specs.Lookup.{properties_at}
 use Rattle.amf0.specs.Places.{text_of_property}
 use Rattle.messages.specs.Notice.{code_at}
 use Rattle.messages.specs.Metadata.{metadata_at}
-use Rattle.messages.specs.Numbers.{type_number, setChunkSize, user_control, windowSize, audio, video, amf0Command}
+use Rattle.messages.specs.Numbers.{type_number, set_chunk_size, user_control, window_size, audio, video, amf0Command}
 use Rattle.messages.specs.declared.ids.RtmpTimestamp.{RtmpTimestamp}
 use Rattle.messages.specs.declared.ids.StreamNumber.{StreamNumber}
 use Rattle.messages.specs.declared.on_status.OnStatus.{OnStatus}
@@ -96,8 +96,8 @@ module _ (s : ClientSession) (clock : RtmpTimestamp) (b : List ℕ) where
   abbrev pub accepted : ℕ → Plan
   accepted n =
       go (accepts
-      (plain (type_number windowSize) clock (word_body s.config.window_ack_size))
-      (record { type_id = type_number setChunkSize; time = record { 0 = 0 }; stream = record { 0 = 0 }; droppable = false; uncompressed = true; body = word_body s.config.chunk_size }))
+      (plain (type_number window_size) clock (word_body s.config.window_ack_size))
+      (record { type_id = type_number set_chunk_size; time = record { 0 = 0 }; stream = record { 0 = 0 }; droppable = false; uncompressed = true; body = word_body s.config.chunk_size }))
       (after n Connected s.progress.active)
 
   -- Grant (document 01): what goes out on the stream x, with the request's own key

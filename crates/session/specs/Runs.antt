@@ -20,7 +20,7 @@ use Rattle.requests.specs.declared.place.Place.{Place}
 use Rattle.requests.specs.declared.place.Slot.TheVariants.{Open}
 use Rattle.requests.specs.declared.text.Text.{Text}
 use Rattle.session.specs.Record.{default_config, fresh, open_of, with_progress, with_requests, with_link}
-use Rattle.session.specs.Calls.{Call, connect, play, publish, stopPlayback, stopPublishing, ping, picture, sound, metadata, bytes, message}
+use Rattle.session.specs.Calls.{Call, connect, play, publish, stop_playback, stop_publishing, ping, picture, sound, metadata, bytes, message}
 use Rattle.session.specs.Step.{step}
 use Rattle.session.specs.Comes.{packet_of}
 use Rattle.session.specs.declared.config.ClientSessionConfig.{ClientSessionConfig}
@@ -193,10 +193,10 @@ publishing =
     "02000d40736574446174614672616d6502000a6f6e4d65746144617461030005776964746800408400000000000000096672616d6572617465007ff8000000000000000673746572656f01010007656e636f64657202000343616d000009"
     ∷ line 16 (came_on 6 42 9 "01") 1 (Refused (SessionInInvalidState Publishing)) "ff"
     ∷ line 17 publish_start 0 (Refused (SessionInInvalidState Publishing)) ""
-    ∷ line 18 stopPlayback 0 Nothing ""
-    ∷ line 19 stopPublishing 33 (Refused Space) "ffffffffffffffffffffffffffffffffffffffffffffffffffffffffffffffffff"
-    ∷ line 20 stopPublishing 34 (sent 20 20 6 false 34) "02000c64656c65746553747265616d00000000000000000005004018000000000000"
-    ∷ line 21 stopPublishing 1 Nothing "ff"
+    ∷ line 18 stop_playback 0 Nothing ""
+    ∷ line 19 stop_publishing 33 (Refused Space) "ffffffffffffffffffffffffffffffffffffffffffffffffffffffffffffffffff"
+    ∷ line 20 stop_publishing 34 (sent 20 20 6 false 34) "02000c64656c65746553747265616d00000000000000000005004018000000000000"
+    ∷ line 21 stop_publishing 1 Nothing "ff"
     ∷ line 22 (picture (1 ∷ []) (at 43) false) 1 (Refused (SessionInInvalidState Connected)) "ff"
     ∷ []
 
@@ -226,8 +226,8 @@ watching =
     ∷ line 18 (came_on 1 51 8 "01") 0 (raised (AudioDataReceived (at 51))) ""
     ∷ line 19 (came_on 2 52 9 "01") 0 Nothing ""
     ∷ line 20 (came 20 "0200086f6e5374617475730000000000000000000505") 0 (Refused InvalidOnStatusArguments) ""
-    ∷ line 21 stopPlayback 34 (sent 20 21 1 false 34) "02000c64656c65746553747265616d00000000000000000005003ff0000000000000"
-    ∷ line 22 stopPlayback 0 Nothing ""
+    ∷ line 21 stop_playback 34 (sent 20 21 1 false 34) "02000c64656c65746553747265616d00000000000000000005003ff0000000000000"
+    ∷ line 22 stop_playback 0 Nothing ""
     ∷ []
 
 -- a second createStream reply while Playing is granted with its own key; a late connect reply gives Connected and keeps the active stream
@@ -252,7 +252,7 @@ late =
     ∷ line 13 (came_on 7 62 9 "01") 0 (Refused (SessionInInvalidState Connected)) ""
     ∷ line 14 (came_on 7 63 18 "02000a6f6e4d65746144617461030005776964746800408400000000000000096672616d657261746500403df851eb851eb8000009") 0 (raised (StreamMetadataReceived fields)) ""
     ∷ line 15 (came_on 5 64 18 "02000a6f6e4d65746144617461030005776964746800408400000000000000096672616d657261746500403df851eb851eb8000009") 0 Nothing ""
-    ∷ line 16 stopPlayback 0 Nothing ""
+    ∷ line 16 stop_playback 0 Nothing ""
     ∷ []
 
 -- held numbers as streams: a grant of NaN is stream 0, one of -3 too, one of 4294967296 is stream 4294967295
@@ -263,15 +263,15 @@ holding =
     ∷ line 2 (came 20 "0200075f726573756c74003ff000000000000005") 8 (accepted 2) "002625a000001000"
     ∷ line 3 (publish (ascii "key") Record) 25 (sent 20 3 0 false 25) "02000c63726561746553747265616d00400000000000000005"
     ∷ line 4 (came 20 "0200075f726573756c7400400000000000000005007ff8000000000000") 35 (sent 20 4 0 false 35) "0200077075626c697368000000000000000000050200036b65790200067265636f7264"
-    ∷ line 5 stopPublishing 34 (sent 20 5 0 false 34) "02000c64656c65746553747265616d00000000000000000005000000000000000000"
+    ∷ line 5 stop_publishing 34 (sent 20 5 0 false 34) "02000c64656c65746553747265616d00000000000000000005000000000000000000"
     ∷ line 6 (publish [] Append) 25 (sent 20 6 0 false 25) "02000c63726561746553747265616d00400800000000000005"
     ∷ line 7 (came 20 "0200075f726573756c740040080000000000000500c008000000000000") 32 (sent 20 7 0 false 32) "0200077075626c69736800000000000000000005020000020006617070656e64"
-    ∷ line 8 stopPublishing 34 (sent 20 8 0 false 34) "02000c64656c65746553747265616d00000000000000000005000000000000000000"
+    ∷ line 8 stop_publishing 34 (sent 20 8 0 false 34) "02000c64656c65746553747265616d00000000000000000005000000000000000000"
     ∷ line 9 (publish (replicate 256 97) Live) 25 (Refused Length) "ffffffffffffffffffffffffffffffffffffffffffffffffff"
     ∷ line 10 (publish (replicate 255 97) Live) 25 (sent 20 10 0 false 25) "02000c63726561746553747265616d00401000000000000005"
     ∷ line 11 (came 20 "0200075f726573756c74004010000000000000050041f0000000000000") 284 (Refused Space) "ffffffffffffffffffffffffffffffffffffffffffffffffffffffffffffffffffffffffffffffffffffffffffffffffffffffffffffffffffffffffffffffffffffffffffffffffffffffffffffffffffffffffffffffffffffffffffffffffffffffffffffffffffffffffffffffffffffffffffffffffffffffffffffffffffffffffffffffffffffffffffffffffffffffffffffffffffffffffffffffffffffffffffffffffffffffffffffffffffffffffffffffffffffffffffffffffffffffffffffffffffffffffffffffffffffffffffffffffffffffffffffffffffffffffffffffffffffffffffffffffffffffffffffffffffffffffffffffffffffffffffffffffffffffffffffffffffffffffffffffffffffffff"
     ∷ line 12 (came 20 "0200075f726573756c74004010000000000000050041f0000000000000") 285 (sent 20 12 4294967295 false 285) "0200077075626c697368000000000000000000050200ff6161616161616161616161616161616161616161616161616161616161616161616161616161616161616161616161616161616161616161616161616161616161616161616161616161616161616161616161616161616161616161616161616161616161616161616161616161616161616161616161616161616161616161616161616161616161616161616161616161616161616161616161616161616161616161616161616161616161616161616161616161616161616161616161616161616161616161616161616161616161616161616161616161616161616161616161616161616161616161616161616161616161616161616161616161610200046c697665"
-    ∷ line 13 stopPublishing 34 (sent 20 13 4294967295 false 34) "02000c64656c65746553747265616d000000000000000000050041efffffffe00000"
+    ∷ line 13 stop_publishing 34 (sent 20 13 4294967295 false 34) "02000c64656c65746553747265616d000000000000000000050041efffffffe00000"
     ∷ []
 
 -- byte counts. The first three lines are document 01's whole case: a window doesn't apply to the count that brought it. Refusal 12 takes a count
@@ -354,9 +354,9 @@ rows =
     ∷ run (open_of (settings (stored []) 1 (stored (replicate 256 97)))) (Refused Length) [] (without Disconnected) quiet
     ∷ run (requesting 0 (replicate 8 empty_place)) Nothing (line 0 (came 4 "0006") 0 (Refused NotASession) "" ∷ []) (without Disconnected) quiet
     ∷ run (requesting 4294967297 (replicate 8 empty_place)) Nothing (line 0 (connect []) 0 (Refused NotASession) "" ∷ []) (without Disconnected) quiet
-    ∷ run (requesting 3 (asked 3 ∷ replicate 7 empty_place)) Nothing (line 0 stopPlayback 0 (Refused NotASession) "" ∷ []) (without Disconnected) quiet
+    ∷ run (requesting 3 (asked 3 ∷ replicate 7 empty_place)) Nothing (line 0 stop_playback 0 (Refused NotASession) "" ∷ []) (without Disconnected) quiet
     ∷ run (requesting 3 (asked 2 ∷ asked 2 ∷ replicate 6 empty_place)) Nothing
-    (line 0 stopPlayback 0 (Refused NotASession) "" ∷ [])
+    (line 0 stop_playback 0 (Refused NotASession) "" ∷ [])
     (without Disconnected) quiet
     ∷ run (requesting 4294967295 (replicate 8 empty_place)) Nothing
     (line 0 (connect (255 ∷ [])) 0 (Refused Length) ""
@@ -376,7 +376,7 @@ rows =
     (without Disconnected) quiet
     ∷ run no_stream Nothing
     (line 0 (picture (1 ∷ []) (at 0) false) 1 (Refused NoKnownActiveStreamIdWhenRequired) "ff"
-    ∷ line 0 stopPublishing 1 Nothing "ff"
+    ∷ line 0 stop_publishing 1 Nothing "ff"
     ∷ line 0 (picture (1 ∷ []) (at 0) false) 1 (Refused (SessionInInvalidState Connected)) "ff"
     ∷ [])
     (without Connected) quiet

@@ -10,7 +10,7 @@ use Rattle.bodies.specs.MetadataBody.{metadata_body}
 use Rattle.requests.specs.declared.outstanding_transaction.OutstandingTransaction.TheVariants.{ConnectionRequested, CreateStream}
 use Rattle.requests.specs.declared.outstanding_transaction.TransactionPurpose.TheVariants.{PlayRequest, PublishRequest}
 use Rattle.session.specs.Record.{is_session}
-use Rattle.session.specs.Calls.{Call, connect, play, publish, stopPlayback, stopPublishing, ping, picture, sound, metadata, bytes, message, on_stream}
+use Rattle.session.specs.Calls.{Call, connect, play, publish, stop_playback, stop_publishing, ping, picture, sound, metadata, bytes, message, on_stream}
 use Rattle.session.specs.Outcomes.{output, written, outcome_of}
 use Rattle.session.specs.Plan.{Plan, refuse, close, go, Check, in_order, is_disconnected, is_connected, is_play, is_publish, unless_stage, if_long, if_large, request, connect_next, create_next, stop, published, ping_plan, count}
 use Rattle.session.specs.Message.{on_message}
@@ -29,8 +29,8 @@ unfoldable pub plan : ClientSession → RtmpTimestamp → Call → Plan
 plan s clock (connect app) = request s clock (unless_disconnected s) ConnectionRequested app (connect_next s app)
 plan s clock (play key) = request s clock (unless_stage is_connected s) (CreateStream PlayRequest) key (create_next s)
 plan s clock (publish key t) = request s clock (unless_stage is_connected s) (CreateStream (PublishRequest t)) key (create_next s)
-plan s clock stopPlayback = stop s clock is_play
-plan s clock stopPublishing = stop s clock is_publish
+plan s clock stop_playback = stop s clock is_play
+plan s clock stop_publishing = stop s clock is_publish
 plan s clock ping = ping_plan s clock
 plan s clock (picture b t d) =
     published s clock (if_large b) (λ x. record { type_id = type_number video; time = t; stream = x; droppable = d; uncompressed = false; body = b })

@@ -2,8 +2,8 @@
 // conditions of document 01's refusals in its order, and last at the space, once.
 ghost use Rattle.std.specs.Prelude.{◌≡◌, false};
 ghost use Rattle.session.specs.Record.{is_session, open_of, with_counts};
-ghost use Rattle.session.specs.Calls.{Call, connect, play, publish, stopPlayback, stopPublishing, ping, picture, sound, metadata, bytes};
-ghost use Rattle.session.specs.Plan.{request, unless_stage, is_connected, create_next, stopped as stoppedOf, published, if_large};
+ghost use Rattle.session.specs.Calls.{Call, connect, play, publish, stop_playback, stop_publishing, ping, picture, sound, metadata, bytes};
+ghost use Rattle.session.specs.Plan.{request, unless_stage, is_connected, create_next, stopped as stopped_of, published, if_large};
 ghost use Rattle.session.specs.Step.{plan};
 ghost use Rattle.session.specs.Comes.{Comes};
 ghost use Rattle.session.specs.Contract.{Does};
@@ -156,7 +156,7 @@ impl ClientSession {
 
     // A stop at one of its own two stages.
     fn stopped(self, clock: RtmpTimestamp, out: &mut [u8]) -> Called
-        ensures { Comes self (stoppedOf self clock self.progress.active) out.old result out.new }
+        ensures { Comes self (stopped_of self clock self.progress.active) out.old result out.new }
     {
         let progress = self.progress;
         let active = progress.active;
@@ -174,7 +174,7 @@ impl ClientSession {
     }
 
     pub fn stop_playback(self, clock: RtmpTimestamp, out: &mut [u8]) -> Called
-        ensures { Does self clock stopPlayback out.old result out.new }
+        ensures { Does self clock stop_playback out.old result out.new }
     {
         if !self.is_session() {
             return self.refused(ClientSessionError::NotASession);
@@ -188,7 +188,7 @@ impl ClientSession {
     }
 
     pub fn stop_publishing(self, clock: RtmpTimestamp, out: &mut [u8]) -> Called
-        ensures { Does self clock stopPublishing out.old result out.new }
+        ensures { Does self clock stop_publishing out.old result out.new }
     {
         if !self.is_session() {
             return self.refused(ClientSessionError::NotASession);

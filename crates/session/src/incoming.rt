@@ -1,7 +1,7 @@
 // A message that came: what its body says, and what that comes to. Replies are in replies.rt, notices in notices.rt.
 ghost use Rattle.std.specs.Prelude.{◌≡◌, ℕ, true, List};
 ghost use Rattle.session.specs.Record.{is_session};
-ghost use Rattle.session.specs.Calls.{message as messageCall};
+ghost use Rattle.session.specs.Calls.{message as message_call};
 ghost use Rattle.session.specs.Message.{is_active, media_type, if_active, media_in, data_in, control_in, window_in, chunk_in, command_of, on_message};
 ghost use Rattle.session.specs.Comes.{Comes};
 ghost use Rattle.session.specs.Contract.{Does};
@@ -215,7 +215,7 @@ impl ClientSession {
         stream: StreamNumber,
         body: &[u8],
     ) -> Outcome
-        ensures { (clock : RtmpTimestamp) (old : List ℕ) → Does self clock (messageCall (media_type type_id) time stream body.now) old (record { outcome = result; session = self }) old }
+        ensures { (clock : RtmpTimestamp) (old : List ℕ) → Does self clock (message_call (media_type type_id) time stream body.now) old (record { outcome = result; session = self }) old }
     {
         if !self.is_plain() {
             if !self.is_session() {
@@ -241,7 +241,7 @@ impl ClientSession {
         body: &[u8],
         out: &mut [u8],
     ) -> Called
-        ensures { Does self clock (messageCall type_id time stream body.now) out.old result out.new }
+        ensures { Does self clock (message_call type_id time stream body.now) out.old result out.new }
     {
         if !self.is_session() {
             return self.refused(ClientSessionError::NotASession);

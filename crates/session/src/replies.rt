@@ -7,7 +7,7 @@ ghost use Rattle.requests.specs.Places.{lookup};
 ghost use Rattle.session.specs.Outcomes.{output, outcome_of};
 ghost use Rattle.session.specs.Plan.{go};
 ghost use Rattle.session.specs.Record.{is_session, with_progress};
-ghost use Rattle.session.specs.Message.{after_closing, accepted as acceptedOf, grant_sends, requested_stage, granted as grantedOf, result_to, error_to};
+ghost use Rattle.session.specs.Message.{after_closing, accepted as accepted_of, grant_sends, requested_stage, granted as granted_of, result_to, error_to};
 ghost use Rattle.session.specs.Comes.{Comes, packet_of};
 
 use crate::errors::ClientSessionError;
@@ -100,7 +100,7 @@ fn requested_stage(purpose: TransactionPurpose) -> ClientState
 impl ClientSession {
     // `_result` to a connect. `closed` is the session with that request closed.
     fn accepted(self, closed: ClientSession, clock: RtmpTimestamp, out: &mut [u8]) -> Called
-        ensures { (b : List ℕ) (n : ℕ) → closed ≡ after_closing self clock b n → Comes self (acceptedOf self clock b n) out.old result out.new }
+        ensures { (b : List ℕ) (n : ℕ) → closed ≡ after_closing self clock b n → Comes self (accepted_of self clock b n) out.old result out.new }
     {
         let config = self.config;
         let wrote = bodies::write_sizes(out, config.window_ack_size, config.chunk_size);
@@ -154,7 +154,7 @@ impl ClientSession {
         out: &mut [u8],
     ) -> Called
         requires { text_sound key ≡ true }
-        ensures { (b : List ℕ) (n : ℕ) → closed ≡ after_closing self clock b n → Comes self (grantedOf self clock b n purpose key first) out.old result out.new }
+        ensures { (b : List ℕ) (n : ℕ) → closed ≡ after_closing self clock b n → Comes self (granted_of self clock b n purpose key first) out.old result out.new }
     {
         match first {
             Argument::Number(bits) => {

@@ -73,8 +73,8 @@ pub(crate) fn connect(
     app: &[u8],
     out: &mut [u8],
 ) -> Wrote
-    requires fact_1 { texts_sound config ≡ true }
-    requires fact_2 { length app.now < 2 ^ 16 }
+    requires sound { texts_sound config ≡ true }
+    requires app_short { length app.now < 2 ^ 16 }
     ensures { Written out.old (connect_body number.0 app.now (text_of config.flash_version) config.has_tc_url (text_of config.tc_url)) out.new result }
 {
     let flash = config.flash_version;

@@ -11,7 +11,7 @@ use borrow.Author.Tests.{le-leb, lt-leb, le-ltb}
 use Rattle.octets.specs.Parse.{Parse, bad, got}
 use Rattle.octets.specs.BigEndian.{digits, uint}
 use Rattle.octets.proofs.BigEndianLaws.{length_digits}
-use Rattle.messages.specs.Incoming.{windowSize, whole, decode}
+use Rattle.messages.specs.Incoming.{window_size, whole, decode}
 use Rattle.messages.specs.Places.{placed}
 use Rattle.messages.specs.declared.ids.RtmpTimestamp.{RtmpTimestamp}
 use Rattle.messages.specs.declared.ids.StreamNumber.{StreamNumber}
@@ -128,9 +128,9 @@ every-count s clock n old h l = by-window s clock n old h l
 -- a window
 module _ (s : ClientSession) (clock t : RtmpTimestamp) (x : StreamNumber) (b old : List ℕ) where
   -- `p` is what the body's four bytes say
-  window-set : (p : Parse ℕ) → decode 5 b ≡ whole windowSize p →
-      is_refused (fitted s old (on_message s clock b 5 t x (placed b (whole windowSize p)))).outcome ≡ false →
-      SetsWindow s b old (fitted s old (on_message s clock b 5 t x (placed b (whole windowSize p))))
+  window-set : (p : Parse ℕ) → decode 5 b ≡ whole window_size p →
+      is_refused (fitted s old (on_message s clock b 5 t x (placed b (whole window_size p)))).outcome ≡ false →
+      SetsWindow s b old (fitted s old (on_message s clock b 5 t x (placed b (whole window_size p))))
   unfolding fitted on_message placed in_turn sent_by bodies outcome_of
   window-set bad e r = clash (cc)
   window-set (got n []) e r =

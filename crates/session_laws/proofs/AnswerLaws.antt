@@ -34,7 +34,7 @@ use Rattle.session.specs.Outcomes.{in_turn, sent_by, bodies}
 use Rattle.session.specs.Plan.{Plan}
 use Rattle.session.specs.declared.record.ClientSession.{ClientSession}
 use Rattle.session_laws.specs.Conditions.{Named, RepliesTo}
-use Rattle.session_laws.specs.Space.{Answers, accepts, grantsPlay, grantsPublish, responds}
+use Rattle.session_laws.specs.Space.{Answers, accepts, grants_play, grants_publish, responds}
 use Rattle.session_laws.proofs.DecideLaws.{clash}
 use Rattle.session_laws.proofs.OrderLaws.{planned}
 
@@ -119,8 +119,8 @@ module _ (s : ClientSession) (clock : RtmpTimestamp) (k : ℕ) (t : RtmpTimestam
   pub takes-is : (n : ℕ) → Answers s k b n → n ≡ planned here
   unfolding on_message placed
   takes-is n (accepts c q m o) = sym (ap planned (comes-open m o) ∙ accept_takes (held c.number))
-  takes-is n (grantsPlay c q v others m o e) =
+  takes-is n (grants_play c q v others m o e) =
       sym (ap planned (comes-grant m o (first-number _ v others e)) ∙ grant-takes (held c.number) PlayRequest q.text v)
-  takes-is n (grantsPublish c q p v others m o e) =
+  takes-is n (grants_publish c q p v others m o e) =
       sym (ap planned (comes-grant m o (first-number _ v others e)) ∙ grant-takes (held c.number) (PublishRequest p) q.text v)
   takes-is n (responds at e) = sym (ap planned (comes (user_control (PingRequest at)) e) ∙ ping_takes at)

@@ -14,7 +14,7 @@ use lib.Ieee.{binary64, of_bits}
 use borrow.Author.Tests.{eq-eqb, ne_eqb, not-false}
 use Rattle.octets.specs.Parse.{place_of}
 use Rattle.numbers.specs.Numbers.{held}
-use Rattle.messages.specs.Incoming.{Incoming, malformed, setChunkSize, abort, acknowledgement, windowSize, peer_bandwidth, user_control, command, values, audio, video, unknown, Command, decode}
+use Rattle.messages.specs.Incoming.{Incoming, malformed, set_chunk_size, abort, acknowledgement, window_size, peer_bandwidth, user_control, command, values, audio, video, unknown, Command, decode}
 use Rattle.messages.specs.Notice.{code_at}
 use Rattle.messages.specs.Places.{name_of, first_of, command_at, data_at, placed}
 use Rattle.messages.specs.declared.ids.RtmpTimestamp.{RtmpTimestamp}
@@ -38,7 +38,7 @@ use Rattle.requests.specs.declared.outstanding_transaction.TransactionPurpose.Th
 use Rattle.requests.specs.declared.table.Requests.{Requests}
 use Rattle.requests.proofs.BoolLaws.{by_cases}
 use Rattle.requests.proofs.TableLaws.{length-closed, closed-sound, closed-open}
-use Rattle.session.specs.Calls.{Call, connect, play, publish, stopPlayback, stopPublishing, ping, picture, sound, metadata, bytes, message, Results, nothing}
+use Rattle.session.specs.Calls.{Call, connect, play, publish, stop_playback, stop_publishing, ping, picture, sound, metadata, bytes, message, Results, nothing}
 use Rattle.session.specs.Message.{is_play_requested, is_publish_requested, is_active, after_closing, granted, result_of, error_of, result_to, error_to, noticed, command_of, if_active, media_in, data_in, control_in, window_in, chunk_in, on_message}
 use Rattle.session.specs.Outcomes.{in_turn, sent_by}
 use Rattle.session.specs.Plan.{close, if_large, is_play, is_publish, unless_stage}
@@ -192,7 +192,7 @@ module _ (s : ClientSession) (clock : RtmpTimestamp) (k : ℕ) (t : RtmpTimestam
     unfolding sum in_turn sent_by
     sized n = good_check s it _ _ _ refl λ h. good-last s it _ (quiet s it _ s.progress s.requests n still refl (λ r. r) (λ r. r) refl)
 
-  windowed : (n : ℕ) → eqb k 5 ≡ true → decode k b ≡ windowSize n → Good s it (window_in s clock b n)
+  windowed : (n : ℕ) → eqb k 5 ≡ true → decode k b ≡ window_size n → Good s it (window_in s clock b n)
   unfolding sum in_turn sent_by
   windowed n h e =
       record {
@@ -209,10 +209,10 @@ module _ (s : ClientSession) (clock : RtmpTimestamp) (k : ℕ) (t : RtmpTimestam
   arriving : (i : Incoming) → decode k b ≡ i → (is_bad i ≡ false → is_window i ≡ eqb k 5) → Good s it (on_message s clock b k t x (placed b i))
   unfolding on_message placed sum in_turn sent_by
   arriving malformed e w = refl
-  arriving (setChunkSize n) e w = sized (sym (w refl)) n
+  arriving (set_chunk_size n) e w = sized (sym (w refl)) n
   arriving (abort n) e w = kept (sym (w refl)) _ refl
   arriving (acknowledgement n) e w = kept (sym (w refl)) _ refl
-  arriving (windowSize n) e w = windowed n (sym (w refl)) e
+  arriving (window_size n) e w = windowed n (sym (w refl)) e
   arriving (peer_bandwidth n l) e w = kept (sym (w refl)) _ refl
   arriving (user_control v) e w = control (sym (w refl)) v
   arriving (command c) e w = commanding (sym (w refl)) e (name_of c.name)
@@ -231,8 +231,8 @@ unfolding plan sum
 good s clock (connect app) = requested s clock (connect app) _ _ app _ refl refl refl refl
 good s clock (play key) = requested s clock (play key) _ _ key _ refl refl refl refl
 good s clock (publish key t) = requested s clock (publish key t) _ _ key _ refl refl refl refl
-good s clock stopPlayback = stops s clock stopPlayback (record { asks_none = refl; counts_none = refl; sets_none = refl }) is_play
-good s clock stopPublishing = stops s clock stopPublishing (record { asks_none = refl; counts_none = refl; sets_none = refl }) is_publish
+good s clock stop_playback = stops s clock stop_playback (record { asks_none = refl; counts_none = refl; sets_none = refl }) is_play
+good s clock stop_publishing = stops s clock stop_publishing (record { asks_none = refl; counts_none = refl; sets_none = refl }) is_publish
 good s clock ping = pings s clock ping (record { asks_none = refl; counts_none = refl; sets_none = refl })
 good s clock (picture b t d) =
     publishes s clock (picture b t d) (record { asks_none = refl; counts_none = refl; sets_none = refl }) _ _ refl (λ x. refl)

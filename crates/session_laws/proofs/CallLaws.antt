@@ -21,7 +21,7 @@ use Rattle.bodies.specs.MetadataBody.{metadata_body}
 use Rattle.requests.specs.Places.{open_count}
 use Rattle.requests.specs.declared.outstanding_transaction.OutstandingTransaction.{OutstandingTransaction}
 use Rattle.requests.proofs.BoolLaws.{by_cases}
-use Rattle.session.specs.Calls.{Call, connect, play, publish, stopPlayback, stopPublishing, ping, picture, sound, metadata, bytes, message, Message, plain, sends, nothing, one, pinged}
+use Rattle.session.specs.Calls.{Call, connect, play, publish, stop_playback, stop_publishing, ping, picture, sound, metadata, bytes, message, Message, plain, sends, nothing, one, pinged}
 use Rattle.session.specs.Outcomes.{in_turn, sent_by, bodies, output}
 use Rattle.session.specs.Plan.{go, Check, is_play, is_publish, is_publishing, unless_stage, if_long, if_large, if_spent, if_eight_open, connect_next, create_next, request, stop, stopped, published, published_on, ping_plan, count, counted_by}
 use Rattle.session.specs.Record.{is_session}
@@ -36,7 +36,7 @@ use Rattle.session.specs.declared.state.ClientState.{ClientState}
 use Rattle.session.specs.declared.state.ClientState.TheVariants.{Publishing}
 use Rattle.session_laws.specs.Order.{Row, ◌if◌}
 use Rattle.session_laws.specs.Conditions.{stage, NoSession, next_above}
-use Rattle.session_laws.specs.Space.{Takes, connects, plays, publishes, stopsPlayback, stopsPublishing, sends_picture, sends_sound, sends_metadata, pings, acknowledges, Short}
+use Rattle.session_laws.specs.Space.{Takes, connects, plays, publishes, stops_playback, stops_publishing, sends_picture, sends_sound, sends_metadata, pings, acknowledges, Short}
 use Rattle.session_laws.specs.Refusals.{asking, between}
 use Rattle.session_laws.proofs.DecideLaws.{Decides, clash, true_false, decides-fits, decides_lt, decides_le, decides_disconnected, decides-connected, decides-publishing, decides_play, decides-publish}
 use Rattle.session_laws.proofs.OrderLaws.{Fate, hit, miss, turned_unless, answer, checked, last, space}
@@ -179,12 +179,12 @@ module _ (s : ClientSession) (clock : RtmpTimestamp) (old : List ℕ) where
   only-metadata : (m : StreamMetadata) (text : List ℕ) (n : ℕ) → Takes s (metadata m text) n → n ≡ length (metadata_body text m)
   only-metadata m text n (sends_metadata _ _) = refl
 
-  only-stop-playback : (n : ℕ) → Takes s stopPlayback n → Stops stopPlayback is_play n
-  only-stop-playback n (stopsPlayback x h e) =
+  only-stop-playback : (n : ℕ) → Takes s stop_playback n → Stops stop_playback is_play n
+  only-stop-playback n (stops_playback x h e) =
       record { stream = x; here = ⊎_elim (λ q. ap is_play q) (λ q. ap is_play q) h; on = e; is = refl }
 
-  only-stop-publishing : (n : ℕ) → Takes s stopPublishing n → Stops stopPublishing is_publish n
-  only-stop-publishing n (stopsPublishing x h e) =
+  only-stop-publishing : (n : ℕ) → Takes s stop_publishing n → Stops stop_publishing is_publish n
+  only-stop-publishing n (stops_publishing x h e) =
       record { stream = x; here = ⊎_elim (λ q. ap is_publish q) (λ q. ap is_publish q) h; on = e; is = refl }
 
   -- between 13 and 12, and 12
@@ -197,10 +197,10 @@ module _ (s : ClientSession) (clock : RtmpTimestamp) (old : List ℕ) where
   walked (play key) ok others = requested (play key) _ _ key _ ok (decides-connected (stage s)) (plays key) (only_play key)
   walked (publish key t) ok others =
       requested (publish key t) _ _ key _ ok (decides-connected (stage s)) (publishes key t) (only-publish key t)
-  walked stopPlayback ok others =
-      stops stopPlayback is_play (λ x h e. stopsPlayback x ((decides_play (stage s)).holds h) e) only-stop-playback
-  walked stopPublishing ok others =
-      stops stopPublishing is_publish (λ x h e. stopsPublishing x ((decides-publish (stage s)).holds h) e) only-stop-publishing
+  walked stop_playback ok others =
+      stops stop_playback is_play (λ x h e. stops_playback x ((decides_play (stage s)).holds h) e) only-stop-playback
+  walked stop_publishing ok others =
+      stops stop_publishing is_publish (λ x h e. stops_publishing x ((decides-publish (stage s)).holds h) e) only-stop-publishing
   walked ping ok others = pinging
   walked (picture b t d) ok others =
       publishing (picture b t d) (if_large b) _ (decides_lt 16777215 (length b)) (λ x. sends_picture b t d) (λ x. only_picture b t d)

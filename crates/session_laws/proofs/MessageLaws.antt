@@ -13,7 +13,7 @@ use Rattle.octets.specs.Compare.{ascii, same}
 use Rattle.octets.specs.Parse.{place_of}
 use Rattle.octets.proofs.CompareLaws.{same-ne}
 use Rattle.numbers.specs.Numbers.{held}
-use Rattle.messages.specs.Incoming.{Incoming, malformed, setChunkSize, abort, acknowledgement, windowSize, peer_bandwidth, user_control, command, values, audio, video, unknown, Command, decode}
+use Rattle.messages.specs.Incoming.{Incoming, malformed, set_chunk_size, abort, acknowledgement, window_size, peer_bandwidth, user_control, command, values, audio, video, unknown, Command, decode}
 use Rattle.messages.specs.Places.{name_of, first_of, command_at, data_at, placed}
 use Rattle.messages.proofs.MeaningLaws.{command-stands, CodeSays, no_code, play-start, publish-start, other-code, code-says}
 use Rattle.messages.specs.declared.ids.RtmpTimestamp.{RtmpTimestamp}
@@ -47,7 +47,7 @@ use Rattle.session.specs.declared.result.Outcome.{Outcome}
 use Rattle.session.specs.declared.state.ClientState.TheVariants.{PlayRequested, Playing, PublishRequested}
 use Rattle.session_laws.specs.Order.{Row, ◌if◌}
 use Rattle.session_laws.specs.Conditions.{stage, Named, RepliesTo, code, NoNumber, WrongStage, play_start, publish_start, sound_in, picture_in, NotCreated, error, NoStreamNumber, result, BadNotice, notice, PeerChunk, large}
-use Rattle.session_laws.specs.Space.{Takes, Answers, accepts, grantsPlay, grantsPublish, responds, answers, Short}
+use Rattle.session_laws.specs.Space.{Takes, Answers, accepts, grants_play, grants_publish, responds, answers, Short}
 use Rattle.session_laws.specs.Refusals.{between}
 use Rattle.session_laws.proofs.DecideLaws.{Decides, clash, decides_as, decides_lt, decides_play-requested, decides-publish-requested, decides_play}
 use Rattle.session_laws.proofs.OrderLaws.{Fate, hit, miss, planned, answer, checked, last, space}
@@ -123,8 +123,8 @@ module _ (s : ClientSession) (clock : RtmpTimestamp) (old : List ℕ) (k : ℕ) 
 
     grants : {q : Request} (p : TransactionPurpose) {v : ℕ} → RepliesTo s c q (CreateStream p) → first_of c.args ≡ argument.Number v →
         Answers s k b (grant_size p q.text)
-    grants {q} PlayRequest {v} o e = let w = is_number c.args v e in grantsPlay c q v w.0 m o w.1
-    grants {q} (PublishRequest p) {v} o e = let w = is_number c.args v e in grantsPublish c q p v w.0 m o w.1
+    grants {q} PlayRequest {v} o e = let w = is_number c.args v e in grants_play c q v w.0 m o w.1
+    grants {q} (PublishRequest p) {v} o e = let w = is_number c.args v e in grants_publish c q p v w.0 m o w.1
 
     no_number : {a : Argument} → first_of c.args ≡ a → ((n : ℕ) → a ≢ argument.Number n) → NoNumber c.args
     no_number e d n others h = d n (sym e ∙ first-number c.args n others h)
@@ -335,10 +335,10 @@ module _ (s : ClientSession) (clock : RtmpTimestamp) (old : List ℕ) (k : ℕ) 
   told said.Other h f = quiet h (takes_none _ _ f refl)
   told (said.OnMetaData p) h f = quiet h (if-active _ f)
 
-  peer-is : {n : ℕ} → decode k b ≡ setChunkSize n → PeerChunk k b → 2147483647 < n
+  peer-is : {n : ℕ} → decode k b ≡ set_chunk_size n → PeerChunk k b → 2147483647 < n
   peer-is {n} e (large m f l) = let q : m ≡ n = cc in omega arith
 
-  sized : (n : ℕ) → decode k b ≡ setChunkSize n → now ≡ chunk_in s clock b n → Fate from8 (answer s old (chunk_in s clock b n))
+  sized : (n : ℕ) → decode k b ≡ set_chunk_size n → now ≡ chunk_in s clock b n → Fate from8 (answer s old (chunk_in s clock b n))
   unfolding in_turn sent_by bodies
   sized n e f =
       let h = ap sort e in
@@ -349,10 +349,10 @@ module _ (s : ClientSession) (clock : RtmpTimestamp) (old : List ℕ) (k : ℕ) 
       Fate from8 (answer s old (on_message s clock b k t x (placed b i)))
   unfolding fitted on_message placed in_turn sent_by bodies
   arriving malformed e f = hit e refl
-  arriving (setChunkSize n) e f = sized n e f
+  arriving (set_chunk_size n) e f = sized n e f
   arriving (abort n) e f = quiet (ap sort e) (takes_none _ _ f refl)
   arriving (acknowledgement n) e f = quiet (ap sort e) (takes_none _ _ f refl)
-  arriving (windowSize n) e f = quiet (ap sort e) (takes_none _ _ f refl)
+  arriving (window_size n) e f = quiet (ap sort e) (takes_none _ _ f refl)
   arriving (peer_bandwidth n l) e f = quiet (ap sort e) (takes_none _ _ f refl)
   arriving (user_control v) e f = events v e f
   arriving (command c) e f = commands e (name_of c.name) refl (spelt c.name)

@@ -9,7 +9,7 @@ use mathlib.Core.List.Memᴰ
 use mathlib.Core.List.{List, [], ◌∷◌}
 use lib.Dec.{eqb}
 use borrow.Author.Tests.{eq-eqb}
-use Rattle.session.specs.Calls.{Call, connect, play, publish, stopPlayback, stopPublishing, ping, picture, sound, metadata, bytes, message}
+use Rattle.session.specs.Calls.{Call, connect, play, publish, stop_playback, stop_publishing, ping, picture, sound, metadata, bytes, message}
 use Rattle.session.specs.Numbers.{refusal_number}
 use Rattle.session.specs.Record.{open_of}
 use Rattle.session.specs.declared.errors.ClientSessionError.{ClientSessionError}
@@ -46,8 +46,8 @@ module _ (s : ClientSession) (old : List ℕ) where
   no_thirteen (connect app) = refl
   no_thirteen (play key) = refl
   no_thirteen (publish key t) = refl
-  no_thirteen stopPlayback = refl
-  no_thirteen stopPublishing = refl
+  no_thirteen stop_playback = refl
+  no_thirteen stop_publishing = refl
   no_thirteen ping = refl
   no_thirteen (picture b t d) = refl
   no_thirteen (sound b t d) = refl
@@ -69,8 +69,8 @@ module _ (s : ClientSession) (old : List ℕ) where
   no_three (connect app) h = unsaid (connect app) refl
   no_three (play key) h = unsaid (play key) refl
   no_three (publish key t) h = unsaid (publish key t) refl
-  no_three stopPlayback h = unsaid stopPlayback refl
-  no_three stopPublishing h = unsaid stopPublishing refl
+  no_three stop_playback h = unsaid stop_playback refl
+  no_three stop_publishing h = unsaid stop_publishing refl
   no_three ping h = unsaid ping refl
   no_three (picture b t d) h = sent-three (picture b t d) _ h
   no_three (sound b t d) h = sent-three (sound b t d) _ h

@@ -19,7 +19,7 @@ use Rattle.requests.specs.declared.outstanding_transaction.OutstandingTransactio
 use Rattle.requests.specs.declared.text.Text.{Text}
 use Rattle.requests.proofs.BoolLaws.{by_cases, and_left, and_right}
 use Rattle.requests.proofs.TextLaws.{fits-length, fits-utf8, text-sound}
-use Rattle.session.specs.Calls.{Call, connect, play, publish, stopPlayback, stopPublishing, ping, picture, sound, metadata, bytes, message, plain, sends, one}
+use Rattle.session.specs.Calls.{Call, connect, play, publish, stop_playback, stop_publishing, ping, picture, sound, metadata, bytes, message, plain, sends, one}
 use Rattle.session.specs.Outcomes.{in_turn, sent_by, output}
 use Rattle.session.specs.Plan.{Plan, go, Check, in_order, if_long, if_spent, if_eight_open, connect_next, request}
 use Rattle.session.specs.Record.{texts_sound, chunk_sound, is_session, fresh, open_of}
@@ -117,8 +117,8 @@ module _ (s : ClientSession) (clock : RtmpTimestamp) (old : List ℕ) (h : is_se
   numbers-plan (connect app) e = numbers s clock (connect app) old _ _ app _ (connect-sends s app h)
   numbers-plan (play key) e = numbers s clock (play key) old _ _ key _ (λ f n. create_stream-number s.requests.next n)
   numbers-plan (publish key t) e = numbers s clock (publish key t) old _ _ key _ (λ f n. create_stream-number s.requests.next n)
-  numbers-plan stopPlayback e = clash e
-  numbers-plan stopPublishing e = clash e
+  numbers-plan stop_playback e = clash e
+  numbers-plan stop_publishing e = clash e
   numbers-plan ping e = clash e
   numbers-plan (picture b t d) e = clash e
   numbers-plan (sound b t d) e = clash e

@@ -5,7 +5,7 @@ use native.Mathlib.Omega.{arith}
 use mathlib.Core.Path.{◌≡◌, ap}
 use mathlib.Core.List.{List}
 use Rattle.octets.specs.Compare.{ascii, same}
-use Rattle.messages.specs.Incoming.{Incoming, malformed, setChunkSize, abort, acknowledgement, windowSize, peer_bandwidth, user_control, command, values, audio, video, unknown, Command, decode}
+use Rattle.messages.specs.Incoming.{Incoming, malformed, set_chunk_size, abort, acknowledgement, window_size, peer_bandwidth, user_control, command, values, audio, video, unknown, Command, decode}
 use Rattle.messages.specs.Places.{name_of}
 use Rattle.messages.specs.declared.rtmp_message.CommandName.{CommandName}
 use Rattle.messages.specs.declared.rtmp_message.CommandName.TheVariants as name
@@ -34,12 +34,12 @@ abbrev pub sort : Incoming → ℕ
 sort malformed = 0
 sort (user_control e) = event_sort e
 sort (command c) = name_sort (name_of c.name)
-sort (setChunkSize n) = 4
+sort (set_chunk_size n) = 4
 sort audio = 8
 sort video = 8
 sort (abort n) = 5
 sort (acknowledgement n) = 5
-sort (windowSize n) = 5
+sort (window_size n) = 5
 sort (peer_bandwidth n l) = 5
 sort (values d) = 5
 sort unknown = 5

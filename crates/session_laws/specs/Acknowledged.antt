@@ -3,10 +3,10 @@
 -- Assumes nothing.
 use Rattle.std.specs.Prelude.{ℕ, ◌+◌, ◌%◌, ◌^◌, ◌≤◌, ◌<◌, ◌≡◌, Bool, true, false, cond, ◌||◌, List, [], ◌∷◌, eqb, length}
 use Rattle.octets.specs.BigEndian.{be, digits}
-use Rattle.messages.specs.Incoming.{windowSize, decode}
+use Rattle.messages.specs.Incoming.{window_size, decode}
 use Rattle.messages.specs.declared.ids.RtmpTimestamp.{RtmpTimestamp}
 use Rattle.messages.specs.declared.ids.StreamNumber.{StreamNumber}
-use Rattle.session.specs.Calls.{Call, connect, play, publish, stopPlayback, stopPublishing, ping, picture, sound, metadata, bytes, message, Message, plain}
+use Rattle.session.specs.Calls.{Call, connect, play, publish, stop_playback, stop_publishing, ping, picture, sound, metadata, bytes, message, Message, plain}
 use Rattle.session.specs.Record.{is_session, open_of}
 use Rattle.session.specs.Step.{Stepped, step}
 use Rattle.session.specs.declared.config.ClientSessionConfig.{ClientSessionConfig}
@@ -36,8 +36,8 @@ sets_window (message k t x b) = eqb k 5
 sets_window (connect app) = false
 sets_window (play key) = false
 sets_window (publish key t) = false
-sets_window stopPlayback = false
-sets_window stopPublishing = false
+sets_window stop_playback = false
+sets_window stop_publishing = false
 sets_window ping = false
 sets_window (picture b t d) = false
 sets_window (sound b t d) = false
@@ -49,8 +49,8 @@ counts (bytes n) = n
 counts (connect app) = 0
 counts (play key) = 0
 counts (publish key t) = 0
-counts stopPlayback = 0
-counts stopPublishing = 0
+counts stop_playback = 0
+counts stop_publishing = 0
 counts ping = 0
 counts (picture b t d) = 0
 counts (sound b t d) = 0
@@ -121,7 +121,7 @@ EveryCount = (s : ClientSession) (clock : RtmpTimestamp) (n : ℕ) (old : List �
 -- a message of type 5 that isn't turned away sets the window and sends nothing, whatever is pending; what is pending stays
 pub record SetsWindow (s : ClientSession) (b : List ℕ) (old : List ℕ) (r : Stepped) : Type 0 where
   pub size : ℕ
-  pub says : decode 5 b ≡ windowSize size
+  pub says : decode 5 b ≡ window_size size
   pub outcome_is : r.outcome ≡ Nothing
   pub output_stays : r.output ≡ old
   pub window_is : r.session.link.window ≡ window.Some size

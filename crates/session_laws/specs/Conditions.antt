@@ -6,7 +6,7 @@ use Rattle.octets.specs.Compare.{ascii}
 use Rattle.octets.specs.Utf8.{Octets}
 use Rattle.numbers.specs.Numbers.{held}
 use Rattle.amf0.specs.Value.{number, Values, cons}
-use Rattle.messages.specs.Incoming.{decode, command, setChunkSize, audio, video, Command}
+use Rattle.messages.specs.Incoming.{decode, command, set_chunk_size, audio, video, Command}
 use Rattle.messages.specs.Notice.{text_in}
 use Rattle.requests.specs.Texts.{text_of}
 use Rattle.requests.specs.Places.{empty_place, Request, lookup}
@@ -108,4 +108,4 @@ pub data BadNotice (k : ℕ) (b : List ℕ) : Type 0 where
 
 -- 7: the peer's chunk size
 pub data PeerChunk (k : ℕ) (b : List ℕ) : Type 0 where
-  large : (n : ℕ) → decode k b ≡ setChunkSize n → LargeChunk n → PeerChunk k b
+  large : (n : ℕ) → decode k b ≡ set_chunk_size n → LargeChunk n → PeerChunk k b

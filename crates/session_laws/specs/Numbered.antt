@@ -3,7 +3,7 @@
 use Rattle.std.specs.Prelude.{ℕ, ◌+◌, ◌≡◌, cond, List, [], ◌∷◌}
 use Rattle.std.proofs.Math.Option.{some}
 use Rattle.bodies.specs.Sent.{request_number}
-use Rattle.session.specs.Calls.{Call, connect, play, publish, stopPlayback, stopPublishing, ping, picture, sound, metadata, bytes, message, Message}
+use Rattle.session.specs.Calls.{Call, connect, play, publish, stop_playback, stop_publishing, ping, picture, sound, metadata, bytes, message, Message}
 use Rattle.session.specs.Record.{open_of}
 use Rattle.session.specs.declared.config.ClientSessionConfig.{ClientSessionConfig}
 use Rattle.session.specs.declared.record.ClientSession.{ClientSession}
@@ -16,8 +16,8 @@ abbrev pub asks : Call → ℕ
 asks (connect app) = 1
 asks (play key) = 1
 asks (publish key t) = 1
-asks stopPlayback = 0
-asks stopPublishing = 0
+asks stop_playback = 0
+asks stop_publishing = 0
 asks ping = 0
 asks (picture b t d) = 0
 asks (sound b t d) = 0

@@ -6,7 +6,7 @@ use Rattle.amf0.specs.Places.{stretch}
 use Rattle.messages.specs.Incoming.{decode, malformed}
 use Rattle.messages.specs.declared.ids.RtmpTimestamp.{RtmpTimestamp}
 use Rattle.requests.specs.Places.{open_count}
-use Rattle.session.specs.Calls.{Call, connect, play, publish, stopPlayback, stopPublishing, ping, picture, sound, metadata, bytes, message}
+use Rattle.session.specs.Calls.{Call, connect, play, publish, stop_playback, stop_publishing, ping, picture, sound, metadata, bytes, message}
 use Rattle.session.specs.Record.{open_of}
 use Rattle.session.specs.Step.{step}
 use Rattle.session.specs.declared.config.ClientSessionConfig.{ClientSessionConfig}
@@ -68,8 +68,8 @@ abbrev pub between : ClientSession → Call → List Row → List Row
 between s (connect app) rows = CantConnectWhileAlreadyConnected if (stage s ≢ Disconnected) ∷ asking s app rows
 between s (play key) rows = SessionInInvalidState (stage s) if (stage s ≢ Connected) ∷ asking s key rows
 between s (publish key t) rows = SessionInInvalidState (stage s) if (stage s ≢ Connected) ∷ asking s key rows
-between s stopPlayback rows = rows
-between s stopPublishing rows = rows
+between s stop_playback rows = rows
+between s stop_publishing rows = rows
 between s ping rows = rows
 between s (picture b t d) rows = sending s (LongBody b) rows
 between s (sound b t d) rows = sending s (LongBody b) rows

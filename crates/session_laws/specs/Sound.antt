@@ -5,7 +5,7 @@ use mathlib.Core.List.{List, Memᴰ}
 use Rattle.octets.specs.BigEndian.{Bytes}
 use Rattle.messages.specs.declared.ids.RtmpTimestamp.{RtmpTimestamp}
 use Rattle.messages.specs.declared.ids.StreamNumber.{StreamNumber}
-use Rattle.session.specs.Calls.{Call, connect, play, publish, stopPlayback, stopPublishing, ping, picture, sound, metadata, bytes, message}
+use Rattle.session.specs.Calls.{Call, connect, play, publish, stop_playback, stop_publishing, ping, picture, sound, metadata, bytes, message}
 use Rattle.session.specs.Record.{is_session, open_of}
 use Rattle.session.specs.Step.{step}
 use Rattle.session.specs.declared.config.ClientSessionConfig.{ClientSessionConfig}
@@ -41,8 +41,8 @@ abbrev pub OfBytes : Call → Type 0
 OfBytes (connect app) = Unit
 OfBytes (play key) = Unit
 OfBytes (publish key t) = Unit
-OfBytes stopPlayback = Unit
-OfBytes stopPublishing = Unit
+OfBytes stop_playback = Unit
+OfBytes stop_publishing = Unit
 OfBytes ping = Unit
 OfBytes (picture b t d) = Unit
 OfBytes (sound b t d) = Unit

@@ -15,7 +15,7 @@ use Rattle.requests.specs.Texts.{text_of}
 use Rattle.requests.specs.Places.{Request}
 use Rattle.requests.specs.declared.outstanding_transaction.OutstandingTransaction.TheVariants.{ConnectionRequested, CreateStream}
 use Rattle.requests.specs.declared.outstanding_transaction.TransactionPurpose.TheVariants.{PlayRequest, PublishRequest}
-use Rattle.session.specs.Calls.{Call, connect, play, publish, stopPlayback, stopPublishing, ping, picture, sound, metadata, bytes, message}
+use Rattle.session.specs.Calls.{Call, connect, play, publish, stop_playback, stop_publishing, ping, picture, sound, metadata, bytes, message}
 use Rattle.session.specs.declared.record.ActiveStream.TheVariants as active
 use Rattle.session.specs.declared.record.ClientSession.{ClientSession}
 use Rattle.session.specs.declared.record.PeerWindow.TheVariants as window
@@ -27,12 +27,12 @@ pub data Answers (s : ClientSession) (k : ℕ) (b : List ℕ) : ℕ → Type 0 w
   -- `_result` to an open connect: window size and chunk size
   accepts : (c : Command) (q : Request) → Named k b (ascii "_result") c → RepliesTo s c q ConnectionRequested → Answers s k b 8
   -- a grant: SetBufferLength and `play`
-  grantsPlay :
+  grants_play :
       (c : Command) (q : Request) (n : ℕ) (others : Values) →
       Named k b (ascii "_result") c → RepliesTo s c q (CreateStream PlayRequest) → c.args ≡ cons (number n) others →
       Answers s k b (10 + length (play_body (text_of q.text)))
   -- a grant: `publish`
-  grantsPublish :
+  grants_publish :
       (c : Command) (q : Request) (t : PublishRequestType) (n : ℕ) (others : Values) →
       Named k b (ascii "_result") c → RepliesTo s c q (CreateStream (PublishRequest t)) → c.args ≡ cons (number n) others →
       Answers s k b (length (publish_body (text_of q.text) t))
@@ -50,12 +50,12 @@ pub data Takes (s : ClientSession) : Call → ℕ → Type 0 where
   plays : (key : List ℕ) → Takes s (play key) (length (create_stream_body s.requests.next))
   publishes : (key : List ℕ) (t : PublishRequestType) → Takes s (publish key t) (length (create_stream_body s.requests.next))
   -- deleteStream, at the stop's own two stages and with an active stream
-  stopsPlayback :
+  stops_playback :
       (x : StreamNumber) → (stage s ≡ PlayRequested) ⊎ (stage s ≡ Playing) → s.progress.active ≡ active.Some x →
-      Takes s stopPlayback (length (delete_stream_body x.0))
-  stopsPublishing :
+      Takes s stop_playback (length (delete_stream_body x.0))
+  stops_publishing :
       (x : StreamNumber) → (stage s ≡ PublishRequested) ⊎ (stage s ≡ Publishing) → s.progress.active ≡ active.Some x →
-      Takes s stopPublishing (length (delete_stream_body x.0))
+      Takes s stop_publishing (length (delete_stream_body x.0))
   sends_picture : (b : List ℕ) (t : RtmpTimestamp) (d : Bool) → Takes s (picture b t d) (length b)
   sends_sound : (b : List ℕ) (t : RtmpTimestamp) (d : Bool) → Takes s (sound b t d) (length b)
   sends_metadata : (m : StreamMetadata) (text : List ℕ) → Takes s (metadata m text) (length (metadata_body text m))
