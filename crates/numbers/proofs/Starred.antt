@@ -14,6 +14,7 @@ right [] = true
 right (r ∷ rs) = eqb (given r) (stated r) && right rs
 
 at : (rs : List Row) (r : Row) → T (right rs) → Memᴰ r rs → given r ≡ stated r
+at [] r t x'' = elim x'' [ ]
 at (x ∷ xs) r t (Memᴰ.head e) = rw e (eqb→eq (given x) (stated x) (and_l (eqb (given x) (stated x)) (right xs) t))
 at (x ∷ xs) r t (Memᴰ.tail m) = at xs r (and_r (eqb (given x) (stated x)) (right xs) t) m
 

@@ -1,4 +1,6 @@
 // The numbers of AMF0 and of the session. AMF0's Number is a double, and is held here by its bit pattern.
+#![tactic(auto)]
+
 ghost use Rattle.std.specs.Prelude.{◌≡◌, ◌<◌, ◌^◌};
 ghost use Rattle.std.specs.Float.Ieee.Nearest.{closest};
 ghost use Rattle.std.specs.Float.{binary32, binary64};

@@ -1,7 +1,7 @@
 -- Laws of `specs/Utf8.antt`: the steps of the code; that the test is the ABNF, `means` and `meant`; and texts that are UTF-8 for sure.
 -- Assumes nothing.
 use Prim.Native.Nat.{ℕ, zero, suc, ◌+◌, ◌-◌, ◌≤◌, ◌<◌}
-use mathlib.Core.Bool.{Bool, true, false, ◌&&◌, ◌||◌, and-false, or-false, or_true, false≢true}
+use mathlib.Core.Bool.{Bool, true, false, ◌&&◌, ◌||◌, and-false, or-false, or-true, false≢true}
 use mathlib.Core.List.{List, [], ◌∷◌, ◌++◌, append_assoc, head-eq_of_cons-eq, tail-eq_of_cons-eq}
 use mathlib.Core.List.{Memᴰ}
 use mathlib.Core.Logic.{◌⊎◌, inl, inr, ⊎_elim}
@@ -150,9 +150,10 @@ means s e = whole (parted s [] e)
 begins : (rs : List (List Range)) (r : Range) (row : List Range) (x : ℕ) (f : List Range → Bool)
     → Memᴰ (r ∷ row) rs → within r x ≡ true → f row ≡ true → any_row rs x f ≡ true
 unfolding any_row
+begins [] r row x f m w g = elim m [ ]
 begins (q ∷ rs) r row x f (Memᴰ.head e) w g = rw (← e, w, g)
 begins ([] ∷ rs) r row x f (Memᴰ.tail m) w g = begins rs r row x f m w g
-begins ((q ∷ qs) ∷ rs) r row x f (Memᴰ.tail m) w g = rw (begins rs r row x f m w g, or_true)
+begins ((q ∷ qs) ∷ rs) r row x f (Memᴰ.tail m) w g = rw (begins rs r row x f m w g, or-true)
 
 joined : (row : List Range) (c s : List ℕ) → in_row row c ≡ true → octets s [] ≡ true → octets (c ++ s) row ≡ true
 unfolding octets

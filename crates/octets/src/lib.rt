@@ -1,4 +1,6 @@
 // Bytes: numbers read from a slice and put into a lent output, parts of a slice, comparing, UTF-8.
+#![tactic(auto)]
+
 mod big_endian;
 mod compare;
 mod output;

@@ -1,0 +1,11 @@
+-- `octets::big_endian::two` meets its contract: the number is made of its two halves.
+-- Assumes nothing.
+use native.Mathlib.Omega.{arith}
+use mathlib.Core.Path.{sym}
+use Rattle.octets.proofs.BigEndianLaws.{be-split}
+use Rattle.octets.proofs.big_endian.two.Goals as goal
+
+pub returns : goal.returns
+returns c =
+    let a = c.args in
+    rw (c.one.ensures, c.one-2.ensures) (sym (be-split 1 1 a.s.now a.at (omega arith)))
