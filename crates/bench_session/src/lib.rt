@@ -182,7 +182,7 @@ pub extern "C" fn bench_bytes(
     sum
 }
 
-#[derive(Drop)]
+#[derive(Clone, Copy)]
 struct Answered {
     sum: u64,
     session: ClientSession,
