@@ -7,7 +7,7 @@ use super::names::text;
 use super::properties::TextAt;
 use octets::Be64;
 
-#[derive(Drop)]
+#[derive(Clone, Copy)]
 pub enum Kind {
     // a double's bit pattern
     Number(u64),
