@@ -20,7 +20,7 @@ pub enum Found {
 }
 
 // Where a text's bytes lie, or that there is none.
-#[derive(Drop)]
+#[derive(Clone, Copy)]
 pub enum TextAt {
     At { start: usize, len: usize },
     Absent,

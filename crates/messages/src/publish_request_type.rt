@@ -1,5 +1,5 @@
 // How a stream that is published is kept by the server.
-#[derive(Drop)]
+#[derive(Clone, Copy)]
 pub enum PublishRequestType {
     // not recorded
     Live,

@@ -23,7 +23,7 @@ pub enum UserControlEvent {
 }
 
 // The command names that a client acts on.
-#[derive(Drop)]
+#[derive(Clone, Copy)]
 pub enum CommandName {
     Result,
     Error,

@@ -7,26 +7,26 @@ ghost use Rattle.messages.specs.Metadata.{field_index, field_places, kind_there,
 use crate::kind::text_of;
 use amf0::{Found, Kind, PropertyAt, TextAt};
 
-#[derive(Drop)]
+#[derive(Clone, Copy)]
 pub enum OptionU32 {
     None,
     Some(u32),
 }
 
-#[derive(Drop)]
+#[derive(Clone, Copy)]
 pub enum OptionF32 {
     None,
     Some(f32),
 }
 
-#[derive(Drop)]
+#[derive(Clone, Copy)]
 pub enum OptionBool {
     None,
     Some(bool),
 }
 
 // The encoder is a place in the bytes that the metadata goes with: of metadata that came in, the message's body.
-#[derive(Drop)]
+#[derive(Clone, Copy)]
 pub struct StreamMetadata {
     pub video_width: OptionU32,
     pub video_height: OptionU32,

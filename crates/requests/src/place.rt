@@ -7,14 +7,14 @@ use crate::outstanding_transaction::OutstandingTransaction;
 use crate::text::Text;
 use messages::TransactionNumber;
 
-#[derive(Drop)]
+#[derive(Clone, Copy)]
 pub enum Slot {
     Free,
     Open(TransactionNumber, OutstandingTransaction),
 }
 
 // What stands in the text of a free place never matters.
-#[derive(Drop)]
+#[derive(Clone, Copy)]
 pub struct Place {
     pub slot: Slot,
     pub text: Text,

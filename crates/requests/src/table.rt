@@ -7,7 +7,7 @@ use crate::place::{Place, Slot, empty_place, find, first_free, places_sound, wit
 use crate::text::Text;
 use messages::TransactionNumber;
 
-#[derive(Drop)]
+#[derive(Clone, Copy)]
 pub struct Requests {
     pub next: u64,
     pub places: [Place; 8],

@@ -6,7 +6,7 @@ ghost use Rattle.session.specs.Record.{default_config, texts_sound};
 use requests::Text;
 
 // tc_url counts only where has_tc_url says that one is configured; it may be empty.
-#[derive(Drop)]
+#[derive(Clone, Copy)]
 pub struct ClientSessionConfig {
     pub flash_version: Text,
     pub playback_buffer_length_ms: u32,

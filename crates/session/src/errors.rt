@@ -1,7 +1,7 @@
 // Why a call was turned away. specs/Numbers.antt gives each the number of document 01's table.
 use crate::state::ClientState;
 
-#[derive(Drop)]
+#[derive(Clone, Copy)]
 pub enum ClientSessionError {
     // 1
     CantConnectWhileAlreadyConnected,

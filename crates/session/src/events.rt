@@ -2,7 +2,7 @@
 use amf0::TextAt;
 use messages::{RtmpTimestamp, StreamMetadata};
 
-#[derive(Drop)]
+#[derive(Clone, Copy)]
 pub enum ClientSessionEvent {
     ConnectionRequestAccepted,
     // the description, Absent where there is none

@@ -13,27 +13,27 @@ use messages::{RtmpTimestamp, StreamNumber};
 use octets::Wrote;
 use requests::Requests;
 
-#[derive(Drop)]
+#[derive(Clone, Copy)]
 pub enum ActiveStream {
     None,
     Some(StreamNumber),
 }
 
-#[derive(Drop)]
+#[derive(Clone, Copy)]
 pub enum PeerWindow {
     None,
     Some(u32),
 }
 
 // The stage, and the stream that the latest grant gave.
-#[derive(Drop)]
+#[derive(Clone, Copy)]
 pub struct Progress {
     pub state: ClientState,
     pub active: ActiveStream,
 }
 
 // The peer's chunk size and window; the bytes since the last acknowledgement, and all bytes.
-#[derive(Drop)]
+#[derive(Clone, Copy)]
 pub struct Link {
     pub chunk: u32,
     pub window: PeerWindow,
@@ -41,7 +41,7 @@ pub struct Link {
     pub total: u64,
 }
 
-#[derive(Drop)]
+#[derive(Clone, Copy)]
 pub struct ClientSession {
     pub config: ClientSessionConfig,
     pub progress: Progress,

@@ -4,7 +4,7 @@ use crate::events::ClientSessionEvent;
 use messages::{RtmpTimestamp, StreamNumber};
 
 // An outbound message. Its body lies in the lent output.
-#[derive(Drop)]
+#[derive(Clone, Copy)]
 pub struct Packet {
     pub type_id: u8,
     pub time: RtmpTimestamp,
@@ -15,7 +15,7 @@ pub struct Packet {
     pub len: usize,
 }
 
-#[derive(Drop)]
+#[derive(Clone, Copy)]
 pub enum ClientSessionResult {
     OutboundResponse(Packet),
     RaisedEvent(ClientSessionEvent),
@@ -23,7 +23,7 @@ pub enum ClientSessionResult {
     UnhandleableMessageReceived(u8),
 }
 
-#[derive(Drop)]
+#[derive(Clone, Copy)]
 pub enum Outcome {
     Refused(ClientSessionError),
     Nothing,

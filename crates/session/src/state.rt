@@ -1,5 +1,5 @@
 // Stage (document 01).
-#[derive(Drop)]
+#[derive(Clone, Copy)]
 pub enum ClientState {
     // not connected to an application on the server yet
     Disconnected,
