@@ -27,6 +27,7 @@ says (is s v) e = cc
 says (passes s b) e = cc
 
 each : (rs : List Row) → map answer rs ≡ map told rs → (r : Row) → Memᴰ r rs → Says r
+each [] e r x'' = elim x'' [ ]
 each (x ∷ xs) e r (Memᴰ.head p) = rw p (says x (cc))
 each (x ∷ xs) e r (Memᴰ.tail m) = each xs (cc) r m
 

@@ -1,6 +1,6 @@
 -- Values read from bytes: the AMF0 paper's sections 1.3 and 2, within document 01's limits.
 -- Assumes nothing.
-use Rattle.std.specs.Prelude.{ℕ, zero, suc, Bool, cond, not, List, [], ◌∷◌, eqb, length}
+use Rattle.std.specs.Prelude.{ℕ, zero, suc, cond, not, List, [], ◌∷◌, eqb, length}
 use Rattle.octets.specs.Parse.{Parse, bad, got, and_then, field}
 use Rattle.octets.specs.BigEndian.{uint}
 use Rattle.octets.specs.Utf8.{utf8}

@@ -1,6 +1,6 @@
 -- Values as bytes: the AMF0 paper's sections 1.3 and 2.
 -- Assumes nothing.
-use Rattle.std.specs.Prelude.{ℕ, zero, suc, ◌-◌, ◌^◌, ◌<◌, ◌≡◌, Bool, true, cond, List, [], ◌∷◌, ◌++◌, length}
+use Rattle.std.specs.Prelude.{ℕ, suc, ◌-◌, ◌^◌, ◌<◌, ◌≡◌, true, cond, List, [], ◌∷◌, ◌++◌, length}
 use Rattle.octets.specs.BigEndian.{digits}
 use Rattle.octets.specs.Utf8.{utf8}
 use Rattle.amf0.specs.Value.{Value, number, boolean, text, object, null, undefined, strict, Props, end, prop, Values, nil, cons}

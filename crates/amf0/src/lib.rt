@@ -1,4 +1,6 @@
 // AMF0 values: read, found and written.
+#![tactic(auto)]
+
 mod kinds;
 mod marker;
 mod names;

@@ -1,7 +1,7 @@
 -- Metadata that was written is read as the values that it was written from; and in its object each of the eleven names has exactly its field's
 -- value, whichever fields are absent.
 -- Assumes nothing.
-use Prim.Native.Nat.{ℕ, ◌-◌, ◌^◌, ◌<◌}
+use Prim.Native.Nat.{ℕ, ◌^◌, ◌<◌}
 use native.Mathlib.Omega.{arith}
 use mathlib.Core.Path.{◌≡◌, refl, sym, ap, ◌∙◌}
 use mathlib.Core.Bool.{Bool, true, false, not, ◌&&◌, ◌||◌}
@@ -91,11 +91,13 @@ missing n (f ∷ fs) h =
     let e = neither (same f.name n) (has_name n fs) h in there n f.name f.value (present fs) none e.0 (missing n fs e.1)
 
 other_name : (n : List ℕ) (f : Field) (fs : List Field) → has_name n fs ≡ false → Memᴰ f fs → same n f.name ≡ false
+other_name n f [] h x'' = elim x'' [ ]
 other_name n f (g ∷ fs) h (Memᴰ.head p) =
     ne_same n f.name (λ e. same-ne g.name n (neither (same g.name n) (has_name n fs) h).0 (ap (λ (x : Field). x.name) (sym p) ∙ sym e))
 other_name n f (g ∷ fs) h (Memᴰ.tail m) = other_name n f fs (neither (same g.name n) (has_name n fs) h).1 m
 
 found : (fs : List Field) → proper fs ≡ true → (f : Field) → Memᴰ f fs → lookup f.name (present fs) ≡ f.value
+found [] h f x'' = elim x'' [ ]
 found (g ∷ fs) h f (Memᴰ.head p) = rw p (here g.name g.value (present fs) (missing g.name fs (proper_first g fs h).once))
 found (g ∷ fs) h f (Memᴰ.tail m) =
     let k = proper_first g fs h in

@@ -16,6 +16,7 @@ unfolding connect_body create_stream_body delete_stream_body play_body publish_b
 all = refl
 
 each : (rs : List Row) → map (λ (r : Row). r.body) rs ≡ map (λ (r : Row). unhex r.hex) rs → (r : Row) → Memᴰ r rs → r.body ≡ unhex r.hex
+each mathlib.Core.List.[] e r x'' = elim x'' [ ]
 each (x ∷ xs) e r (Memᴰ.head p) = rw p (cc)
 each (x ∷ xs) e r (Memᴰ.tail m) = each xs (cc) r m
 

@@ -4,7 +4,7 @@ use Rattle.std.specs.Prelude.{ℕ, Bool, cond, ◌||◌, List}
 use Rattle.std.proofs.Math.Option.{Option, none, some}
 use Rattle.octets.specs.Compare.{ascii, same}
 use Rattle.numbers.specs.Numbers.{held}
-use Rattle.amf0.specs.Value.{Value, number, boolean, text, object, null, undefined, strict, Values, nil, cons}
+use Rattle.amf0.specs.Value.{number, boolean, text, object, null, undefined, strict, Values, nil, cons}
 use Rattle.messages.specs.Incoming.{Incoming, malformed, set_chunk_size, abort, acknowledgement, window_size, peer_bandwidth, user_control, command, values, audio, video, unknown, Command, decode}
 
 unfoldable pub command_in : Incoming → Option Command

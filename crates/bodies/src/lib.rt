@@ -1,5 +1,7 @@
 // The bodies that a client sends, each written from the start of a lent output. A text's length has to fit AMF0's 2 bytes; only the
 // session calls these, and its texts have at most 255.
+#![tactic(auto)]
+
 mod commands;
 mod controls;
 mod metadata_body;

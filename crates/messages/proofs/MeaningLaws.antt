@@ -121,6 +121,8 @@ module _ (s : List ℕ) where
 
   code-of-text : (o : Option (List ℕ)) (k : TextAt) → TextStands s o k → CodeSays o (code_of s k)
   unfolding code_of code_is
+  code-of-text (some t) text_at.Absent x3 = elim x3 [ ]
+  code-of-text none (text_at.At start n) x'' = elim x'' [ ]
   code-of-text none text_at.Absent no_text = no_code
   code-of-text (some t) (text_at.At start n) (text-at l) =
       rw l.is (go (same t (ascii "NetStream.Play.Start")) refl (same t (ascii "NetStream.Publish.Start")) refl)
@@ -137,6 +139,8 @@ module _ (s : List ℕ) where
   -- the stretch of the body that a description is
   text-stretch : (o : Option (List ℕ)) (k : TextAt) → TextStands s o k → stretch s k ≡ get_or o []
   unfolding stretch
+  text-stretch (some t) text_at.Absent x3 = elim x3 [ ]
+  text-stretch none (text_at.At start n) x'' = elim x'' [ ]
   text-stretch none text_at.Absent no_text = refl
   text-stretch (some t) (text_at.At start n) (text-at l) = l.is
 

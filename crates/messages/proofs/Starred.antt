@@ -41,6 +41,7 @@ says (code_in h k) e = cc
 says (width_in h w) e = cc
 
 each : (rs : List Row) → map answer rs ≡ map told rs → (r : Row) → Memᴰ r rs → Says r
+each mathlib.Core.List.[] e r x'' = elim x'' [ ]
 each (x ∷ xs) e r (Memᴰ.head p) = rw p (says x (cc))
 each (x ∷ xs) e r (Memᴰ.tail m) = each xs (cc) r m
 

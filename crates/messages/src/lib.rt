@@ -1,4 +1,6 @@
 // Message bodies by type, read: what a body says, with the places of its texts and values.
+#![tactic(auto)]
+
 mod amf0_command;
 mod amf0_data;
 mod ids;

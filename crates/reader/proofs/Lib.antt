@@ -1,5 +1,3 @@
 -- The laws that the proofs cite.
 pub mod EndLaws
 pub mod TakenLaws
-pub mod Reading
-pub mod Lent

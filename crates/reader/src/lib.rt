@@ -1,5 +1,7 @@
 // A reader carries a body and its position in it. The work is done by `value_at`, on a slice and a number; what takes the struct apart is thin,
 // and a caller has `read_head`, whose parameters are plain.
+#![tactic(auto)]
+
 ghost use Rattle.std.specs.Prelude.{◌≡◌, drop};
 ghost use Rattle.amf0.specs.Decode.{top_value};
 ghost use Rattle.amf0.specs.Places.{kind_at, end_of};

@@ -298,6 +298,7 @@ pub record Stands (next n : ℕ) (t : Text) : Type 0 where
 module _ (next : ℕ) where
   pub in-sound : (ps : List Place) → places_sound next ps ≡ true → {n : ℕ} {k : OutstandingTransaction} {t : Text}
       → Memᴰ (opened n k t) ps → Stands next n t
+  in-sound [] e {n = n} {k = k} {t = t} x'' = elim x'' [ ]
   in-sound (p ∷ ps) e {n} {k} {t} (Memᴰ.head h) =
       let s = sound-open next n k t ps (rw (← h) at (sound-first next p ps e)) in
       record { above = s.above; below = s.below; text = s.text }
@@ -318,6 +319,7 @@ module _ (next : ℕ) where
   pub in-found : (n : ℕ) (ps : List Place) (q : Request) → places_sound next ps ≡ true
       → Memᴰ (opened n q.kind q.text) ps → lookup n ps ≡ some q
   unfolding lookup
+  in-found n [] q e x'' = elim x'' [ ]
   in-found n (p ∷ ps) q e (Memᴰ.head h) = rw (← h, eq-eqb n n refl)
   in-found n (p ∷ ps) q e (Memᴰ.tail m) =
       let f = in-found n ps q (sound-rest next p ps e) m in

@@ -1,6 +1,6 @@
 -- Texts of at most 255 bytes: a caller's, and those that a record holds.
 -- Assumes nothing.
-use Rattle.std.specs.Prelude.{ℕ, Bool, ◌&&◌, List, [], ◌++◌, leb, length, take, replicate}
+use Rattle.std.specs.Prelude.{ℕ, Bool, ◌&&◌, List, ◌++◌, leb, length, take, replicate}
 use Rattle.octets.specs.Utf8.{utf8}
 use Rattle.requests.specs.declared.text.Text.{Text}
 

@@ -1,4 +1,6 @@
 // The requests that are open: eight places, each with its number, its kind and its text.
+#![tactic(auto)]
+
 mod outstanding_transaction;
 mod place;
 mod table;

@@ -1,0 +1,13 @@
+use Prim.Native.Nat.{◌-◌, ◌≤◌}
+use mathlib.Core.Path.{◌≡◌}
+use lib.ListN.{length, drop}
+use Rattle.amf0.specs.Decode.{all_values}
+use Rattle.amf0.specs.Places.{count_of}
+use Rattle.amf0.proofs.ReadLaws.{plus}
+use Rattle.amf0.proofs.read.count_values.Given as goal
+
+abbrev pub invariant-loop-i : goal.invariant-loop-i
+invariant-loop-i l = (l.n ≤ l.i) × (count_of (all_values (drop l.at l.s)) ≡ plus l.n (count_of (all_values (drop l.i l.s))))
+
+abbrev pub decreases-loop-i : goal.decreases-loop-i
+decreases-loop-i l = length l.s - l.i

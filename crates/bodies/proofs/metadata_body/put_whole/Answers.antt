@@ -1,0 +1,19 @@
+-- `bodies::put_whole` meets its contract: the property, or nothing where it is absent.
+-- Assumes nothing.
+use native.Mathlib.Omega.{arith}
+use Rattle.bodies.specs.Fields.{field_bytes}
+use Rattle.bodies.proofs.FieldLaws.{no-put}
+use borrow.Author.Rules.{rules}
+use Rattle.bodies.proofs.metadata_body.put_whole.Goals as goal
+
+pub put_number_property-requires-clause-room : goal.put_number_property-requires-clause-room
+put_number_property-requires-clause-room c =
+    omega (arith, rw c.in-Some.is at c.requires.room)
+
+pub returns-in-Some : goal.returns-in-Some
+unfolding field_bytes
+returns-in-Some c = rw (c.in-Some.is, ← c.number_of.ensures) (search rules)
+
+pub returns-in-None : goal.returns-in-None
+unfolding field_bytes
+returns-in-None c = rw c.in-None.is (record { put = no-put; value = omega arith })
