@@ -63,7 +63,10 @@ pub fn same(to: Stdout, given: &[u8]) {
     let s = &given[17..e];
     hex::digits(to, octets::part(s, start as usize, len as usize));
     hex::tab(to);
-    hex::flag(to, octets::part_is(s, start as usize, len as usize, &given[e..]));
+    hex::flag(
+        to,
+        octets::part_is(s, start as usize, len as usize, &given[e..]),
+    );
 }
 
 fn fill(out: &mut [u8]) {

@@ -1,5 +1,7 @@
 // Runs the stored cases: a line of standard input is a letter, a tab and bytes in hexadecimal; a line of results goes out for each.
 // docs/TESTING.md has what each letter means and how the lines were made.
+#![tactic(auto)]
+
 mod bytes;
 mod hex;
 mod number;
