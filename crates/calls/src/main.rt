@@ -1,5 +1,7 @@
 // Runs the stored cases of the session's calls: a line of standard input makes a record by hand and then makes calls on it; a line of results
 // goes out for each. The head of vectors/calls.py has the form of both.
+#![tactic(auto)]
+
 mod calling;
 mod hex;
 mod making;
@@ -34,7 +36,13 @@ fn fill(out: &mut [u8]) {
 }
 
 // A call with that output lent: what it answered, and the output.
-fn called(to: Stdout, letter: u8, session: ClientSession, given: &[u8], out: &mut [u8]) -> ClientSession {
+fn called(
+    to: Stdout,
+    letter: u8,
+    session: ClientSession,
+    given: &[u8],
+    out: &mut [u8],
+) -> ClientSession {
     fill(out);
     let c = calling::call(letter, session, given, out);
     let answer = c.outcome;
@@ -52,7 +60,13 @@ fn opened(to: Stdout, session: ClientSession) -> ClientSession {
 }
 
 // What a field in capitals or a view does.
-fn act(to: Stdout, letter: u8, session: ClientSession, given: &[u8], out: &mut [u8]) -> ClientSession {
+fn act(
+    to: Stdout,
+    letter: u8,
+    session: ClientSession,
+    given: &[u8],
+    out: &mut [u8],
+) -> ClientSession {
     if letter == b'v' {
         showing::record(to, session);
         return session;
@@ -79,7 +93,13 @@ fn makes(letter: u8) -> bool {
 }
 
 // One field: the line's name, or a letter and hexadecimal.
-fn field(to: Stdout, s: &[u8], session: ClientSession, given: &mut [u8], out: &mut [u8]) -> ClientSession {
+fn field(
+    to: Stdout,
+    s: &[u8],
+    session: ClientSession,
+    given: &mut [u8],
+    out: &mut [u8],
+) -> ClientSession {
     if s.len() < 1 {
         return session;
     }

@@ -1,4 +1,5 @@
 // Generated scripts, whose answers are the Rust's: `replay` on them.
+#![tactic(auto)]
 
 // A line has at most 2,097,407 bytes and a body 1,048,576, so that such a body's digits fit a line.
 fn main(rt: HostRuntime) {

@@ -1,4 +1,5 @@
 // The stored scripts, each from an opening on: `card` on many sessions, telling the values of events and what is open after each line.
+#![tactic(auto)]
 
 // A line has at most 2,097,407 bytes and a body 1,048,576, so that such a body's digits fit a line.
 fn main(rt: HostRuntime) {

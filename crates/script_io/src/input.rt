@@ -12,7 +12,11 @@ fn too_long(st: Standing) -> Standing {
     let mut after = st;
     if !st.skip {
         let waiting = st.waiting;
-        results::complain(waiting.stderr, std::num::wrapping_add_u64(st.line, 1), Why::LineLength);
+        results::complain(
+            waiting.stderr,
+            std::num::wrapping_add_u64(st.line, 1),
+            Why::LineLength,
+        );
     }
     after.held = 0;
     after.skip = true;
