@@ -1,4 +1,6 @@
 // A script's lines taken apart.
+#![tactic(auto)]
+
 mod asked;
 mod decimal;
 mod fields;

@@ -2,7 +2,7 @@
 -- with a refusal, messages written one after the other.
 -- Assumes nothing.
 use Rattle.std.proofs.Common.{◌≡◌, ℕ, Bool, true, false, eqb, ltb, List, ◌++◌, length, drop, sym, refl, ◌∙◌, arith, le-ltb}
-use borrow.Author.Rules.{zero≤}
+use native.Mathlib.Omega.{arith}
 use Rattle.octets.specs.Output.{Written, answer, left}
 use Rattle.octets.specs.declared.output.Wrote.{Wrote}
 use Rattle.octets.specs.declared.output.Wrote.TheVariants.{Done, NoSpace}
@@ -70,14 +70,14 @@ module _ {s : ClientSession} {old : List ℕ} {r : Called} where
       → r ≡ record { outcome = One (RaisedEvent e); session = after } → Comes s (go (one (raises e)) after) old r old
   unfolding fitted in_turn sent_by bodies outcome_of
   raised-goes {after} {e} q =
-      comes-to (record { outcome = One (RaisedEvent e); session = after; output = old }) (rw (le-ltb (length old) 0 zero≤)) q refl
+      comes-to (record { outcome = One (RaisedEvent e); session = after; output = old }) (rw (le-ltb (length old) 0 (omega arith))) q refl
 
   -- a message that isn't handled
   pub unhandled-goes : {after : ClientSession} {k : ℕ}
       → r ≡ record { outcome = One (UnhandleableMessageReceived k); session = after } → Comes s (go (one (unhandled k)) after) old r old
   unfolding fitted in_turn sent_by bodies outcome_of
   unhandled-goes {after} {k} q =
-      comes-to (record { outcome = One (UnhandleableMessageReceived k); session = after; output = old }) (rw (le-ltb (length old) 0 zero≤)) q refl
+      comes-to (record { outcome = One (UnhandleableMessageReceived k); session = after; output = old }) (rw (le-ltb (length old) 0 (omega arith))) q refl
 
   pub closed_after : {e : ClientSessionError} {a after : ClientSession} → a ≡ after → r ≡ refused_with a e → Comes s (closing e after) old r old
   closed_after f q = rw (← f) (closed-away q)

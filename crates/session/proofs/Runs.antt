@@ -121,6 +121,7 @@ unfolding played_first field uint digits same any_row octets utf8 narrowed marke
 computed = refl
 
 each : (rs : List Run) → map shown_first rs ≡ map stated_by rs → (r : Run) → Memᴰ r rs → shown_by r ≡ stated_by r
+each [] e r x'' = elim x'' [ ]
 each (x ∷ xs) e r (Memᴰ.head p) = rw (p, shown-first x) (let f : shown_first x ≡ stated_by x = cc in f)
 each (x ∷ xs) e r (Memᴰ.tail m) = each xs (let f : map shown_first xs ≡ map stated_by xs = cc in f) r m
 

@@ -2,7 +2,7 @@
 -- every call.
 -- Assumes nothing.
 use Rattle.std.proofs.Common.{◌≡◌, ℕ, Bool, true, false, not, ltb, List, [], ◌∷◌, ◌++◌, length, drop, refl, append-nil, le-ltb}
-use borrow.Author.Rules.{zero≤}
+use native.Mathlib.Omega.{arith}
 use borrow.Author.Tests.{not-true, not-false}
 use Rattle.octets.specs.Output.{Written, answer, left}
 use Rattle.octets.specs.declared.output.Wrote.{Wrote}
@@ -95,7 +95,7 @@ module _ {s : ClientSession} {old : List ℕ} {r : Called} where
   -- ---- what goes out
   pub quiet-goes : {after : ClientSession} → r ≡ quiet after → Comes s (go nothing after) old r old
   unfolding fitted in_turn sent_by bodies outcome_of
-  quiet-goes {after} q = comes-to (record { outcome = Nothing; session = after; output = old }) (rw (le-ltb (length old) 0 zero≤)) q refl
+  quiet-goes {after} q = comes-to (record { outcome = Nothing; session = after; output = old }) (rw (le-ltb (length old) 0 (omega arith))) q refl
 
   pub sent-goes : {after : ClientSession} {k : ℕ} {t : RtmpTimestamp} {x : StreamNumber} {d : Bool} {b exit : List ℕ} {w : Wrote}
       → Written old b exit w

@@ -1,6 +1,6 @@
 -- The calls with their arguments, the messages that they send, and what they result in.
 -- Assumes nothing.
-use Rattle.std.specs.Prelude.{ℕ, Bool, true, false, List}
+use Rattle.std.specs.Prelude.{ℕ, Bool, false, List}
 use Rattle.messages.specs.declared.ids.RtmpTimestamp.{RtmpTimestamp}
 use Rattle.messages.specs.declared.ids.StreamNumber.{StreamNumber}
 use Rattle.messages.specs.declared.publish_request_type.PublishRequestType.{PublishRequestType}

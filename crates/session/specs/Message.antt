@@ -1,6 +1,6 @@
 -- What a message that came comes to, by what its body says.
 -- Assumes nothing.
-use Rattle.std.specs.Prelude.{ℕ, Bool, true, false, cond, not, List, [], ◌∷◌, drop, ◌==◌, nat_lt}
+use Rattle.std.specs.Prelude.{ℕ, Bool, true, false, cond, List, [], ◌∷◌, drop, ◌==◌, nat_lt}
 use Rattle.std.proofs.Math.Option.{Option, none, some}
 use Rattle.octets.specs.Compare.{ascii}
 use Rattle.numbers.specs.Numbers.{held}
@@ -13,7 +13,6 @@ use Rattle.messages.specs.declared.ids.RtmpTimestamp.{RtmpTimestamp}
 use Rattle.messages.specs.declared.ids.StreamNumber.{StreamNumber}
 use Rattle.messages.specs.declared.on_status.OnStatus.{OnStatus}
 use Rattle.messages.specs.declared.on_status.OnStatus.TheVariants as status
-use Rattle.messages.specs.declared.publish_request_type.PublishRequestType.{PublishRequestType}
 use Rattle.messages.specs.declared.rtmp_message.Argument.{Argument}
 use Rattle.messages.specs.declared.rtmp_message.Argument.TheVariants as argument
 use Rattle.messages.specs.declared.rtmp_message.Command.{Command}
@@ -35,15 +34,14 @@ use Rattle.requests.specs.declared.outstanding_transaction.TransactionPurpose.{T
 use Rattle.requests.specs.declared.outstanding_transaction.TransactionPurpose.TheVariants.{PlayRequest, PublishRequest}
 use Rattle.requests.specs.declared.text.Text.{Text}
 use Rattle.session.specs.Record.{with_progress, with_requests, with_link}
-use Rattle.session.specs.Calls.{Message, plain, on_stream, Result, sends, raises, unhandled, Results, nothing, one, two, accepts}
-use Rattle.session.specs.Plan.{Plan, refuse, close, go, Check, in_order, is_play, unless_stage}
-use Rattle.session.specs.declared.errors.ClientSessionError.TheVariants.{SessionInInvalidState, CreateStreamFailed, CreateStreamResponseHadNoStreamNumber, InvalidOnStatusArguments, InvalidMaxChunkSize, MalformedBody}
+use Rattle.session.specs.Calls.{plain, on_stream, sends, raises, unhandled, Results, nothing, one, two, accepts}
+use Rattle.session.specs.Plan.{Plan, refuse, close, go, in_order, is_play, unless_stage}
+use Rattle.session.specs.declared.errors.ClientSessionError.TheVariants.{CreateStreamFailed, CreateStreamResponseHadNoStreamNumber, InvalidOnStatusArguments, InvalidMaxChunkSize, MalformedBody}
 use Rattle.session.specs.declared.events.ClientSessionEvent.{ClientSessionEvent}
 use Rattle.session.specs.declared.events.ClientSessionEvent.TheVariants.{ConnectionRequestRejected, PlaybackRequestAccepted, PublishRequestAccepted, StreamMetadataReceived, VideoDataReceived, AudioDataReceived, UnhandleableAmf0Command, UnknownTransactionResultReceived, UnhandleableOnStatusCode, AcknowledgementReceived, PingResponseReceived}
 use Rattle.session.specs.declared.record.ActiveStream.{ActiveStream}
 use Rattle.session.specs.declared.record.ActiveStream.TheVariants as active
 use Rattle.session.specs.declared.record.ClientSession.{ClientSession}
-use Rattle.session.specs.declared.record.Link.{Link}
 use Rattle.session.specs.declared.record.PeerWindow.TheVariants as window
 use Rattle.session.specs.declared.state.ClientState.{ClientState}
 use Rattle.session.specs.declared.state.ClientState.TheVariants.{Disconnected, Connected, PlayRequested, Playing, PublishRequested, Publishing}

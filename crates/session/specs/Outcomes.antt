@@ -1,6 +1,6 @@
 -- What a call answers and what it leaves in the lent output, from its results.
 -- Assumes nothing.
-use Rattle.std.specs.Prelude.{ℕ, ◌+◌, List, [], ◌∷◌, ◌++◌, length, drop}
+use Rattle.std.specs.Prelude.{ℕ, List, [], ◌∷◌, ◌++◌, length, drop}
 use Rattle.session.specs.Calls.{Message, Result, sends, raises, unhandled, Results, nothing, one, two, accepts, pinged}
 use Rattle.session.specs.declared.events.ClientSessionEvent.TheVariants.{ConnectionRequestAccepted}
 use Rattle.session.specs.declared.result.ClientSessionResult.{ClientSessionResult}

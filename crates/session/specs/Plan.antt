@@ -1,7 +1,6 @@
 -- What each of the caller's calls comes to, before 13 and 12 are looked at: the refusals in document 01's order, then results and a session.
 -- Assumes nothing.
 use Rattle.std.specs.Prelude.{ℕ, ◌+◌, ◌%◌, ◌^◌, Bool, true, false, cond, not, List, [], ◌∷◌, length, nat_le, nat_lt}
-use Rattle.amf0.specs.Places.{stretch}
 use Rattle.messages.specs.Numbers.{type_number, acknowledgement, user_control, amf0Command}
 use Rattle.messages.specs.declared.ids.RtmpTimestamp.{RtmpTimestamp}
 use Rattle.messages.specs.declared.ids.StreamNumber.{StreamNumber}
@@ -11,13 +10,12 @@ use Rattle.requests.specs.Texts.{fits, text_of}
 use Rattle.requests.specs.Table.{spent, eight_open, asked}
 use Rattle.requests.specs.declared.outstanding_transaction.OutstandingTransaction.{OutstandingTransaction}
 use Rattle.session.specs.Record.{with_progress, with_requests, with_counts}
-use Rattle.session.specs.Calls.{Message, plain, on_stream, Result, sends, Results, nothing, one, pinged}
+use Rattle.session.specs.Calls.{Message, plain, on_stream, sends, Results, nothing, one, pinged}
 use Rattle.session.specs.declared.errors.ClientSessionError.{ClientSessionError}
 use Rattle.session.specs.declared.errors.ClientSessionError.TheVariants.{SessionInInvalidState, NoKnownActiveStreamIdWhenRequired, Length, EightOpen, Spent}
 use Rattle.session.specs.declared.record.ActiveStream.{ActiveStream}
 use Rattle.session.specs.declared.record.ActiveStream.TheVariants as active
 use Rattle.session.specs.declared.record.ClientSession.{ClientSession}
-use Rattle.session.specs.declared.record.Link.{Link}
 use Rattle.session.specs.declared.record.PeerWindow.{PeerWindow}
 use Rattle.session.specs.declared.record.PeerWindow.TheVariants as window
 use Rattle.session.specs.declared.state.ClientState.{ClientState}

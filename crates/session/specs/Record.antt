@@ -1,6 +1,6 @@
 -- The session record: what refusal 13 asks of it, and opening.
 -- Assumes nothing.
-use Rattle.std.specs.Prelude.{ℕ, Bool, true, false, cond, not, ◌&&◌, ◌||◌, List, [], nat_le}
+use Rattle.std.specs.Prelude.{ℕ, Bool, false, cond, not, ◌&&◌, ◌||◌, [], nat_le}
 use Rattle.octets.specs.Compare.{ascii}
 use Rattle.requests.specs.Texts.{text_sound, stored}
 use Rattle.requests.specs.Table.{none, requests_sound}
@@ -13,7 +13,6 @@ use Rattle.session.specs.declared.record.Called.{Called}
 use Rattle.session.specs.declared.record.ClientSession.{ClientSession}
 use Rattle.session.specs.declared.record.Link.{Link}
 use Rattle.session.specs.declared.record.PeerWindow.TheVariants as window
-use Rattle.session.specs.declared.record.Progress.{Progress}
 use Rattle.session.specs.declared.result.Outcome.TheVariants.{Refused, Nothing}
 use Rattle.session.specs.declared.state.ClientState.{ClientState}
 use Rattle.session.specs.declared.state.ClientState.TheVariants.{Disconnected}

@@ -1,6 +1,6 @@
 -- What a call does: 13 in front, the plan of the call, and one test of the space.
 -- Assumes nothing.
-use Rattle.std.specs.Prelude.{ℕ, Bool, false, cond, not, List, [], ◌∷◌, length, nat_lt}
+use Rattle.std.specs.Prelude.{ℕ, false, cond, not, List, [], ◌∷◌, length, nat_lt}
 use Rattle.amf0.specs.Places.{stretch}
 use Rattle.messages.specs.Incoming.{decode}
 use Rattle.messages.specs.Numbers.{type_number, audio, video, amf0Data}

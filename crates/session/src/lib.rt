@@ -1,4 +1,6 @@
 // The client session: the record, opening, and the calls, each of which consumes the session and hands back the new one.
+#![tactic(auto)]
+
 mod client;
 mod config;
 mod errors;
