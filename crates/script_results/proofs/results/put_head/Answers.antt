@@ -1,6 +1,5 @@
 -- `script_results::results::put_head` meets its contract: line number and stage.
 -- Assumes nothing.
-use native.Mathlib.Omega.{arith}
 use Rattle.octets.proofs.OutputLaws.{then}
 use Rattle.script_results.specs.Results.{head_text}
 use Rattle.script_results.proofs.results.put_head.Goals as goal
@@ -9,8 +8,3 @@ pub returns-clause-put : goal.returns-clause-put
 unfolding head_text
 returns-clause-put c =
     then c.put_field-a.ensures.put (rw c.stage_number.ensures at c.put_field.ensures.put)
-
-pub returns-clause-upper_bound : goal.returns-clause-upper_bound
-unfolding head_text
-returns-clause-upper_bound c =
-    omega (arith, c.put_field-a.ensures.upper_bound, c.put_field.ensures.upper_bound)

@@ -1,6 +1,5 @@
 -- `script_results::results::put_numbers` meets its contract: three numbers.
 -- Assumes nothing.
-use native.Mathlib.Omega.{arith}
 use Rattle.octets.proofs.OutputLaws.{then}
 use Rattle.script_results.specs.Results.{numbers_text}
 use Rattle.script_results.proofs.results.put_numbers.Goals as goal
@@ -9,8 +8,3 @@ pub returns-clause-put : goal.returns-clause-put
 unfolding numbers_text
 returns-clause-put c =
     then (then c.put_field-a.ensures.put c.put_field-b.ensures.put) c.put_field.ensures.put
-
-pub returns-clause-upper_bound : goal.returns-clause-upper_bound
-unfolding numbers_text
-returns-clause-upper_bound c =
-    omega (arith, c.put_field-a.ensures.upper_bound, c.put_field-b.ensures.upper_bound, c.put_field.ensures.upper_bound)
