@@ -1,4 +1,6 @@
 // What the benchmark calls from C.
+#![tactic(auto)]
+
 ghost use Rattle.std.specs.Prelude.{◌≡◌, drop};
 ghost use Rattle.octets.specs.Compare.{ascii};
 ghost use Rattle.amf0.specs.Decode.{all_values};

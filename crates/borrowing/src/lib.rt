@@ -1,5 +1,7 @@
 // The calls at the top, which borrow the session and update it: each makes the call by value, stores the session that it hands back, and answers its
 // outcome. A picture or sound that comes leaves the session as it is: nothing is stored then, and the record isn't copied.
+#![tactic(auto)]
+
 ghost use Rattle.std.specs.Prelude.{◌≡◌};
 ghost use Rattle.session.specs.Calls.{bytes, message};
 ghost use Rattle.session.specs.Contract.{Does};

@@ -1,4 +1,6 @@
 // A script's line carried out: the call of the session that it asks for.
+#![tactic(auto)]
+
 mod making;
 mod media;
 mod opening;

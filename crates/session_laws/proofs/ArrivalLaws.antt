@@ -4,7 +4,7 @@ use Prim.Native.Nat.{ℕ}
 use native.Mathlib.Omega.{arith}
 use mathlib.Core.Path.{◌≡◌, refl, sym, ◌∙◌}
 use mathlib.Core.Logic.{◌≢◌, inr, ⊎_elim}
-use mathlib.Core.Bool.{true, false, or_true}
+use mathlib.Core.Bool.{true, false, or-true}
 use mathlib.Core.List.{List}
 use mathlib.Core.Option.{Option, none, some}
 use lib.Dec.{eqb}
@@ -203,7 +203,7 @@ module _ (s : ClientSession) (clock : RtmpTimestamp) (k : ℕ) (t : RtmpTimestam
         total = λ h. h;
         within = λ o w. record { window_below = λ v q. let r : v ≡ n = cc in rw r (window_below k b o e); pending_below = w.pending_below };
         sums = rw (no-count (is_set s.link.window) 0 refl) (omega arith);
-        sets = rw h (sym (or_true (is_set s.link.window)));
+        sets = rw h (sym (or-true (is_set s.link.window)));
       }
 
   arriving : (i : Incoming) → decode k b ≡ i → (is_bad i ≡ false → is_window i ≡ eqb k 5) → Good s it (on_message s clock b k t x (placed b i))

@@ -17,7 +17,7 @@ use Rattle.requests.specs.declared.outstanding_transaction.OutstandingTransactio
 use Rattle.requests.specs.declared.table.Requests.{Requests}
 use Rattle.requests.proofs.BoolLaws.{by_cases}
 use Rattle.requests.proofs.TableLaws.{length-asked, asked-sound}
-use Rattle.session.specs.Calls.{Call, sound, bytes, Message, Results, nothing}
+use Rattle.session.specs.Calls.{Call, bytes, Message, Results, nothing}
 use Rattle.session.specs.Outcomes.{in_turn, sent_by}
 use Rattle.session.specs.Plan.{Plan, refuse, close, go, Check, in_order, if_long, if_spent, if_eight_open, request, stop, stopped, published, published_on, unless_stage, is_publishing, ping_plan, count, counted, counted_by}
 use Rattle.session.specs.declared.errors.ClientSessionError.{ClientSessionError}

@@ -4,7 +4,7 @@ use Prim.Native.Nat.{ℕ}
 use native.Mathlib.Omega.{arith}
 use mathlib.Core.Path.{◌≡◌, refl, ap, subst⁻¹}
 use mathlib.Core.Logic.{inl, inr, ⊎_elim}
-use mathlib.Core.Bool.{Bool, true, false, not, ◌||◌, or_true}
+use mathlib.Core.Bool.{Bool, true, false, not, ◌||◌, or-true}
 use mathlib.Core.List.Memᴰ
 use mathlib.Core.List.{List, [], ◌∷◌}
 use lib.Dec.{eqb}
@@ -35,7 +35,7 @@ says k (r ∷ rs) = eqb (refusal_number r.says) k || says k rs
 first_says : (rows : List Row) (e : ClientSessionError) → First rows e → says (refusal_number e) rows ≡ true
 first_says [] e f = absurd f
 first_says (r ∷ rs) e (inl f) = rw (eq-eqb (refusal_number r.says) (refusal_number e) (ap refusal_number f.1))
-first_says (r ∷ rs) e (inr f) = rw (first_says rs e f.1) (or_true (eqb (refusal_number r.says) (refusal_number e)))
+first_says (r ∷ rs) e (inr f) = rw (first_says rs e f.1) (or-true (eqb (refusal_number r.says) (refusal_number e)))
 
 module _ (s : ClientSession) (old : List ℕ) where
   -- the rows between 13 and 12, and 12

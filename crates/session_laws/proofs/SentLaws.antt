@@ -38,10 +38,12 @@ unfolding answers_from messages_in sent_by bodies
 read-from [] pre post at h = refl
 read-from (sends m ∷ rs) pre post at h =
     let rest : List ℕ = bodies (sent_by rs) ++ post in
-    rw (append_assoc m.body (bodies (sent_by rs)) post)
-    (ap₂ ◌∷◌
-    (ap (λ (w : List ℕ). with-body m w) (part_at pre m.body rest at h))
-    (rw (append_assoc pre m.body rest) at (read-from rs (pre ++ m.body) post (at + length m.body) (omega (arith, length-append pre m.body)))))
+    let e : bodies (sent_by (sends m ∷ rs)) ++ post ≡ m.body ++ rest = append_assoc m.body (bodies (sent_by rs)) post in
+    ap₂ ◌∷◌
+    (ap (λ (w : List ℕ). with-body m (part (pre ++ w) at (length m.body))) e
+    ∙ ap (λ (w : List ℕ). with-body m w) (part_at pre m.body rest at h))
+    (ap (λ (w : List ℕ). messages_in (pre ++ w) (answers_from (at + length m.body) rs)) e
+    ∙ (rw (append_assoc pre m.body rest) at (read-from rs (pre ++ m.body) post (at + length m.body) (omega (arith, length-append pre m.body)))))
 read-from (raises e ∷ rs) pre post at h = read-from rs pre post (at + 0) (omega arith)
 read-from (unhandled t ∷ rs) pre post at h = read-from rs pre post (at + 0) (omega arith)
 

@@ -4,7 +4,7 @@ use Prim.Native.Nat.{ℕ, zero, suc, ◌≤◌, ◌<◌}
 use native.Mathlib.Omega.{arith}
 use mathlib.Core.Path.{◌≡◌, refl, ap, ◌∙◌}
 use mathlib.Core.Logic.{◌⊎◌, inl, inr, ⊎_elim}
-use mathlib.Core.Bool.{Bool, true, false, not, ◌&&◌, ◌||◌, or_true}
+use mathlib.Core.Bool.{Bool, true, false, not, ◌&&◌, ◌||◌, or-true}
 use mathlib.Core.List.{List, [], ◌∷◌}
 use mathlib.Core.Option.{some}
 use lib.Dec.{ltb, leb}
@@ -45,7 +45,7 @@ number-has : (n : ℕ) (ps : List Place) (i : ℕ) → number_in ps i ≡ some n
 unfolding has_number
 number-has n [] i h = clash (cc)
 number-has n (p ∷ ps) zero h = rw (as_open n p.slot h)
-number-has n (p ∷ ps) (suc i) h = rw (number-has n ps i h) (or_true (open_as n p.slot))
+number-has n (p ∷ ps) (suc i) h = rw (number-has n ps i h) (or-true (open_as n p.slot))
 
 -- what is wrong with the first place
 abbrev Head : ℕ → Slot → Text → List Place → Type 0

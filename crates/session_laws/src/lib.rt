@@ -1,1 +1,2 @@
 // What holds of every call: specifications and proofs alone.
+#![tactic(auto)]

@@ -1,0 +1,12 @@
+-- `script_run::media::publish_audio` meets its contract: by what the digits are.
+-- Assumes nothing.
+use Rattle.script_run.proofs.RunLaws.{no_body, told-body}
+use Rattle.script_run.proofs.media.publish_audio.Goals as goal
+
+pub returns-in-Unread : goal.returns-in-Unread
+returns-in-Unread c =
+    no_body _ _ _ c.decode-decoded.ensures c.in-Unread.is c.apart.ensures
+
+pub returns-in-Bytes : goal.returns-in-Bytes
+returns-in-Bytes c =
+    told-body _ _ c.decode-decoded.ensures c.in-Bytes.is c.part-data.ensures c.publish_audio_data-called.ensures c.told.ensures
