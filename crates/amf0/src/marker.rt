@@ -2,7 +2,7 @@
 ghost use Rattle.std.specs.Prelude.{◌≡◌};
 ghost use Rattle.amf0.specs.Decode.{marker_of};
 
-#[derive(Drop)]
+#[derive(Clone, Copy)]
 pub enum Marker {
     Number,
     Boolean,

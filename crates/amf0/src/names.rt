@@ -8,7 +8,7 @@ use super::properties::TextAt;
 use octets::Be16;
 
 // The object's end, with the place after it, or where a name lies.
-#[derive(Drop)]
+#[derive(Clone, Copy)]
 pub enum Named {
     End(usize),
     At { start: usize, len: usize },

@@ -12,7 +12,7 @@ use super::read::{Next, value};
 use octets::Be32;
 
 // Where a property's value starts. Absent: the value has no property of that name, or is no object.
-#[derive(Drop)]
+#[derive(Clone, Copy)]
 pub enum Found {
     At(usize),
     Absent,
@@ -27,7 +27,7 @@ pub enum TextAt {
 }
 
 // A property: where its name lies, with its value right behind it, and the place after that. Or the object's end.
-#[derive(Drop)]
+#[derive(Clone, Copy)]
 pub enum PropertyAt {
     End,
     At {

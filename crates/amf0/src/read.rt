@@ -10,14 +10,14 @@ use super::properties::TextAt;
 use octets::Be32;
 
 // The place after what was read, or that it is malformed.
-#[derive(Drop)]
+#[derive(Clone, Copy)]
 pub enum Next {
     At(usize),
     Malformed,
 }
 
 // How many values there are, or that one is malformed.
-#[derive(Drop)]
+#[derive(Clone, Copy)]
 pub enum Counted {
     Is(usize),
     Malformed,

@@ -1,5 +1,7 @@
 // What bench/ times: loops of calls on a session, over numbers and slices. Each makes `rounds` calls on a session with `open` requests open
 // and hands back a sum of what they answered, so that no call can be left out; the driver compares it with the Rust session's.
+#![tactic(auto)]
+
 mod answers;
 
 use messages::{RtmpTimestamp, StreamNumber};
@@ -180,7 +182,7 @@ pub extern "C" fn bench_bytes(
     sum
 }
 
-#[derive(Drop)]
+#[derive(Clone, Copy)]
 struct Answered {
     sum: u64,
     session: ClientSession,

@@ -67,6 +67,7 @@ or_true false e = e
 module _ (is : Said → Bool) where
   came-any : (since : List Line) (l : Line) → Memᴰ l since → is (said l) ≡ true → any_since is since ≡ true
   unfolding any_since
+  came-any [] l x'' h = elim x'' [ ]
   came-any (m ∷ since) l (Memᴰ.head e) h = rw (← e, h)
   came-any (m ∷ since) l (Memᴰ.tail t) h = or_true (is (said m)) (came-any since l t h)
 

@@ -20,7 +20,7 @@ use Rattle.session.specs.Calls.{Message}
 use Rattle.session.specs.Numbers.{refusal_number}
 use Rattle.session.specs.Outcomes.{in_turn, sent_by}
 use Rattle.session.specs.Record.{texts_sound, chunk_sound, is_session, with_progress, with_requests}
-use Rattle.session.specs.Plan.{go, Check, is_play, is_publish, is_publishing, unless_stage, if_long, if_spent, if_eight_open, request, stopped, stop, published_on, published, counted_by, count}
+use Rattle.session.specs.Plan.{Check, is_play, is_publish, is_publishing, unless_stage, if_long, if_spent, if_eight_open, request, stopped, stop, published_on, published, counted_by, count}
 use Rattle.session.specs.declared.record.ActiveStream.{ActiveStream}
 use Rattle.session.specs.declared.record.ActiveStream.TheVariants as active
 use Rattle.session.specs.declared.record.ClientSession.{ClientSession}

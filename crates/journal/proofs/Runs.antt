@@ -128,6 +128,7 @@ unfolding field uint digits same any_row octets utf8 marker_of text_of name_of p
 computed = refl
 
 at : (rs : List Row) (r : Row) → map (λ r. end_of (run_first start r.calls)) rs ≡ map (λ r. r.ends) rs → Memᴰ r rs → end_of (run start r.calls) ≡ r.ends
+at [] r e x'' = elim x'' [ ]
 at (x ∷ xs) r e (Memᴰ.head q) = rw (q, run-first start x.calls) (let f : end_of (run_first start x.calls) ≡ x.ends = cc in f)
 at (x ∷ xs) r e (Memᴰ.tail m) = at xs r (let f : map (λ r. end_of (run_first start r.calls)) xs ≡ map (λ r. r.ends) xs = cc in f) m
 

@@ -7,7 +7,7 @@ use crate::rtmp_message::Argument;
 use amf0::{Kind, TextAt};
 
 // A Number's bit pattern.
-#[derive(Drop)]
+#[derive(Clone, Copy)]
 pub enum OptionU64 {
     None,
     Some(u64),

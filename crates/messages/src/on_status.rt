@@ -4,7 +4,7 @@ ghost use Rattle.messages.specs.Notice.{code_at};
 
 use amf0::TextAt;
 
-#[derive(Drop)]
+#[derive(Clone, Copy)]
 pub enum OnStatus {
     // NetStream.Play.Start
     PlayStart,

@@ -2,7 +2,7 @@
 use crate::ids::{RtmpTimestamp, StreamNumber};
 
 // How a window that limits our output is meant.
-#[derive(Drop)]
+#[derive(Clone, Copy)]
 pub enum PeerBandwidthLimitType {
     Hard,
     Soft,
@@ -10,7 +10,7 @@ pub enum PeerBandwidthLimitType {
 }
 
 // An event of type 4 with its values.
-#[derive(Drop)]
+#[derive(Clone, Copy)]
 pub enum UserControlEvent {
     StreamBegin(StreamNumber),
     StreamEof(StreamNumber),
@@ -32,7 +32,7 @@ pub enum CommandName {
 }
 
 // A command's first argument, where the kinds that a client reads differ. A Number is its bit pattern.
-#[derive(Drop)]
+#[derive(Clone, Copy)]
 pub enum Argument {
     Absent,
     Number(u64),
@@ -41,7 +41,7 @@ pub enum Argument {
 }
 
 // A command: its name, with the place of its bytes; the pattern of its Number; where its object and its arguments start.
-#[derive(Drop)]
+#[derive(Clone, Copy)]
 pub struct Command {
     pub name: CommandName,
     pub start: usize,
@@ -53,13 +53,13 @@ pub struct Command {
 }
 
 // Values: `onMetaData` and an object that starts there, or others.
-#[derive(Drop)]
+#[derive(Clone, Copy)]
 pub enum DataMessage {
     OnMetaData(usize),
     Other,
 }
 
-#[derive(Drop)]
+#[derive(Clone, Copy)]
 pub enum RtmpMessage {
     // a type that RTMP 1.0 doesn't have
     Unknown,

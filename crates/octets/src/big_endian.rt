@@ -3,21 +3,21 @@ ghost use Rattle.std.specs.Prelude.{◌≡◌, ◌+◌, ◌-◌, ◌≤◌, leng
 ghost use Rattle.octets.specs.BigEndian.{be, uint, read_as};
 
 // A number of 2 bytes, or that the slice ends before it does.
-#[derive(Drop)]
+#[derive(Clone, Copy)]
 pub enum Be16 {
     Is(u16),
     Short,
 }
 
 // A number of 3 or 4 bytes.
-#[derive(Drop)]
+#[derive(Clone, Copy)]
 pub enum Be32 {
     Is(u32),
     Short,
 }
 
 // A number of 8 bytes.
-#[derive(Drop)]
+#[derive(Clone, Copy)]
 pub enum Be64 {
     Is(u64),
     Short,

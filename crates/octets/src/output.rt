@@ -5,7 +5,7 @@ ghost use Rattle.std.specs.Prelude.{◌≡◌, ◌∷◌, [], ◌+◌, ◌<◌, 
 ghost use Rattle.octets.specs.BigEndian.{digits};
 ghost use Rattle.octets.specs.Output.{Put, Written};
 
-#[derive(Drop)]
+#[derive(Clone, Copy)]
 pub enum Wrote {
     Done(usize),
     NoSpace,

@@ -3,7 +3,7 @@ ghost use Rattle.std.specs.Prelude.{ℕ, ◌+◌, ◌≤◌, List, [], ◌∷◌
 ghost use Rattle.octets.specs.Utf8.{octets, utf8, due};
 
 // What is still to come of a character: how many bytes, and from where to where the first of them lies. The others lie from 80 to BF.
-#[derive(Drop)]
+#[derive(Clone, Copy)]
 struct Due(u8, u8, u8);
 
 // What is to come after the first byte of a character. A byte that begins none leaves one from 1 to 0 to come, and no byte is that.

@@ -9,21 +9,21 @@ ghost use Rattle.reader.specs.Read.{taken, head_of};
 
 use amf0::{Kind, Next};
 
-#[derive(Drop)]
+#[derive(Clone, Copy)]
 pub struct Reader<'a> {
     pub src: &'a [u8],
     pub at: usize,
 }
 
 // What was read, and the place after it. Of a value that is malformed the kind is Malformed, and the place stays.
-#[derive(Drop)]
+#[derive(Clone, Copy)]
 pub struct Taken {
     pub kind: Kind,
     pub next: usize,
 }
 
 // Three values, one after the other.
-#[derive(Drop)]
+#[derive(Clone, Copy)]
 pub struct Head {
     pub first: Taken,
     pub second: Taken,

@@ -13,7 +13,7 @@ pub struct Requests {
     pub places: [Place; 8],
 }
 
-#[derive(Drop)]
+#[derive(Clone, Copy)]
 pub enum TakeAnswer {
     Given(TransactionNumber),
     // refusal 11
@@ -22,20 +22,20 @@ pub enum TakeAnswer {
     EightOpen,
 }
 
-#[derive(Drop)]
+#[derive(Clone, Copy)]
 pub struct Taken {
     pub answer: TakeAnswer,
     pub requests: Requests,
 }
 
-#[derive(Drop)]
+#[derive(Clone, Copy)]
 pub enum CloseAnswer {
     Request(OutstandingTransaction),
     Unknown,
 }
 
 // The text is that of the request which was closed.
-#[derive(Drop)]
+#[derive(Clone, Copy)]
 pub struct Closed {
     pub answer: CloseAnswer,
     pub text: Text,

@@ -6,7 +6,7 @@ use messages::{PublishRequestType, RtmpTimestamp, StreamNumber};
 
 // What a session is opened with: the places of the flash version and of the tcUrl, Absent where none is configured; the length of the playback buffer
 // in milliseconds; the window and the chunk size.
-#[derive(Drop)]
+#[derive(Clone, Copy)]
 pub struct Settings {
     pub flash: Span,
     pub buffer: u32,
@@ -16,7 +16,7 @@ pub struct Settings {
 }
 
 // The first of a call's values is the clock. A Span is the place of a text or of a body's digits in the line.
-#[derive(Drop)]
+#[derive(Clone, Copy)]
 pub enum Line {
     Empty,
     Bad(Why),

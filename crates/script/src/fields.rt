@@ -8,21 +8,21 @@ use crate::{decimal, hex};
 use messages::OptionU32;
 
 // A place in the line.
-#[derive(Drop)]
+#[derive(Clone, Copy)]
 pub struct Span {
     pub start: usize,
     pub len: usize,
 }
 
 // A number and the end of its field.
-#[derive(Drop)]
+#[derive(Clone, Copy)]
 pub(crate) enum Num {
     No(Why),
     Is(u32, usize),
 }
 
 // A field's place and its end.
-#[derive(Drop)]
+#[derive(Clone, Copy)]
 pub(crate) enum Part {
     No(Why),
     At(Span, usize),

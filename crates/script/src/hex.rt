@@ -4,7 +4,7 @@ ghost use Rattle.std.proofs.lemmas.List.Edits.{sets};
 ghost use Rattle.script.specs.Hex.{value_of, all_digits, is_hex, pairs, unhex_of, unhex_into};
 
 // How many bytes were decoded; or that the text is no hexadecimal, or the output too short.
-#[derive(Drop)]
+#[derive(Clone, Copy)]
 pub enum Unhexed {
     Done(usize),
     Bad,

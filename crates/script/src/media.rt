@@ -8,7 +8,7 @@ use crate::reasons::Why;
 use messages::RtmpTimestamp;
 
 // Time, whether it may be dropped, and the place of the body.
-#[derive(Drop)]
+#[derive(Clone, Copy)]
 pub(crate) enum Media {
     No(Why),
     Is(RtmpTimestamp, bool, Span),

@@ -9,7 +9,7 @@ use crate::{decimal, fields, named};
 use amf0::TextAt;
 use messages::{OptionF32, OptionU32, StreamMetadata};
 
-#[derive(Drop)]
+#[derive(Clone, Copy)]
 pub enum MetadataRead {
     Bad(Why),
     Is(StreamMetadata),

@@ -9,7 +9,7 @@ use messages::{OptionBool, OptionF32, OptionU32};
 use octets::Be32;
 
 // By the kind of its value, which begins after that many bytes. An encoder may be any text.
-#[derive(Drop)]
+#[derive(Clone, Copy)]
 pub(crate) enum FieldKind {
     Whole(usize),
     Rate(usize),
@@ -18,7 +18,7 @@ pub(crate) enum FieldKind {
     Unknown,
 }
 
-#[derive(Drop)]
+#[derive(Clone, Copy)]
 pub(crate) enum Checked {
     Good,
     Bad(Why),

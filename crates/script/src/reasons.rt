@@ -1,5 +1,5 @@
 // Why a line can't be read.
-#[derive(Drop)]
+#[derive(Clone, Copy)]
 pub enum Why {
     Missing,
     Extra,

@@ -5,7 +5,7 @@ ghost use Rattle.script.specs.Verbs.{main_verb, call_verb, verb_of, publish_type
 
 use messages::PublishRequestType;
 
-#[derive(Drop)]
+#[derive(Clone, Copy)]
 pub(crate) enum Verb {
     Unknown,
     Bytes,
@@ -23,7 +23,7 @@ pub(crate) enum Verb {
     Space,
 }
 
-#[derive(Drop)]
+#[derive(Clone, Copy)]
 pub(crate) enum OptionPublishType {
     None,
     Some(PublishRequestType),

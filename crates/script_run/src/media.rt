@@ -10,7 +10,7 @@ use script::{Span, Unhexed, Why};
 use session::ClientSession;
 
 // How many bytes a body's digits stand for, or why they can't be decoded.
-#[derive(Drop)]
+#[derive(Clone, Copy)]
 pub enum Decoded {
     Bytes(usize),
     Unread(Why),

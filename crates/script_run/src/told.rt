@@ -5,7 +5,7 @@ ghost use Rattle.script_run.specs.Asked.{ran, answered};
 use script::Why;
 use session::{Called, ClientSession, Outcome};
 
-#[derive(Drop)]
+#[derive(Clone, Copy)]
 pub enum Came {
     // the line is empty
     Passed,
@@ -18,7 +18,7 @@ pub enum Came {
 }
 
 // What a line came to, and the session after it.
-#[derive(Drop)]
+#[derive(Clone, Copy)]
 pub struct Ran {
     pub came: Came,
     pub session: ClientSession,

@@ -19,7 +19,7 @@ use octets::Wrote;
 use requests::{OutstandingTransaction, Requests, TakeAnswer, TransactionPurpose};
 
 // What a count comes to, then pending and total after it.
-#[derive(Drop)]
+#[derive(Clone, Copy)]
 struct Counted(Outcome, u32, u64);
 
 impl ClientSession {

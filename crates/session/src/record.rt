@@ -50,7 +50,7 @@ pub struct ClientSession {
 }
 
 // What a call hands back.
-#[derive(Drop)]
+#[derive(Clone, Copy)]
 pub struct Called {
     pub outcome: Outcome,
     pub session: ClientSession,
