@@ -51,12 +51,12 @@ fn name(to: Stdout, n: CommandName) {
     }
 }
 
-fn first(to: Stdout, a: &Argument) {
+fn first(to: Stdout, a: Argument) {
     match a {
         Argument::Absent => hex::word(to, b" absent"),
         Argument::Number(bits) => {
             hex::word(to, b" number ");
-            hex::hex(to, *bits, 16)
+            hex::hex(to, bits, 16)
         }
         Argument::Object => hex::word(to, b" object"),
         Argument::Other => hex::word(to, b" other"),
@@ -97,7 +97,7 @@ fn command(to: Stdout, c: Command, body: &[u8]) {
     hex::hex(to, c.number, 16);
     place(to, c.object);
     place(to, c.args);
-    first(to, &a);
+    first(to, a);
     notice(to, n, a, c.args, body);
 }
 

@@ -22,7 +22,7 @@ pub struct Standing {
     pub waiting: Waiting,
 }
 
-#[derive(Drop)]
+#[derive(Clone, Copy)]
 pub struct Running {
     pub standing: Standing,
     pub session: ClientSession,
@@ -188,7 +188,7 @@ pub(crate) fn ended(
 }
 
 // Where what is left begins.
-#[derive(Drop)]
+#[derive(Clone, Copy)]
 pub struct Taken {
     pub from: usize,
     pub running: Running,
