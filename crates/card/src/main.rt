@@ -7,5 +7,13 @@ fn main(rt: HostRuntime) {
     let mut body = [0u8; 1048576];
     let mut out = [0u8; 1048576];
     let mut text = [0u8; 65536];
-    script_io::run(rt, &mut buf, &mut body, &mut out, &mut text);
+    script_io::run(
+        rt.stdin(),
+        rt.stdout(),
+        rt.stderr(),
+        &mut buf,
+        &mut body,
+        &mut out,
+        &mut text,
+    );
 }

@@ -8,17 +8,21 @@ mod results;
 mod values;
 mod waiting;
 
+use std::io::{Stderr, Stdin, Stdout};
+
 // Until the input ends or can't be read, or a result can't be written. A line longer than `buf`, or a body longer than `body`, isn't run; `out` is lent
 // to the calls, and results wait in `text`.
 fn go_on(
-    rt: HostRuntime,
+    stdin: Stdin,
+    stdout: Stdout,
+    stderr: Stderr,
     telling: bool,
     buf: &mut [u8],
     body: &mut [u8],
     out: &mut [u8],
     text: &mut [u8],
 ) {
-    let mut running = lines::start(rt, telling);
+    let mut running = lines::start(stdin, stdout, stderr, telling);
     let mut turns = u64::MAX;
     while turns > 0 {
         turns -= 1;
@@ -31,17 +35,27 @@ fn go_on(
 }
 
 // Document 01's result lines.
-pub fn run(rt: HostRuntime, buf: &mut [u8], body: &mut [u8], out: &mut [u8], text: &mut [u8]) {
-    go_on(rt, false, buf, body, out, text)
-}
-
-// Those with the values of events, and after each line what is open: the active stream and the open requests.
-pub fn run_telling(
-    rt: HostRuntime,
+pub fn run(
+    stdin: Stdin,
+    stdout: Stdout,
+    stderr: Stderr,
     buf: &mut [u8],
     body: &mut [u8],
     out: &mut [u8],
     text: &mut [u8],
 ) {
-    go_on(rt, true, buf, body, out, text)
+    go_on(stdin, stdout, stderr, false, buf, body, out, text)
+}
+
+// Those with the values of events, and after each line what is open: the active stream and the open requests.
+pub fn run_telling(
+    stdin: Stdin,
+    stdout: Stdout,
+    stderr: Stderr,
+    buf: &mut [u8],
+    body: &mut [u8],
+    out: &mut [u8],
+    text: &mut [u8],
+) {
+    go_on(stdin, stdout, stderr, true, buf, body, out, text)
 }

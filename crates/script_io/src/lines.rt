@@ -6,7 +6,7 @@ use crate::{open, results, waiting};
 use script::{Line, Why};
 use script_run::Came;
 use session::{ClientSession, ClientSessionConfig, Outcome};
-use std::io::Stdin;
+use std::io::{Stderr, Stdin, Stdout};
 
 // Lines passed; bytes at hand of the line that has begun, and whether it is passed over as too long; whether more input may come; how much of the
 // output is lent; whether events are told with their values, and after each line what is open; where lines come from; the text that waits.
@@ -29,14 +29,14 @@ pub struct Running {
 }
 
 // A default session, and all of the output lent.
-pub(crate) fn start(rt: HostRuntime, telling: bool) -> Running {
+pub(crate) fn start(stdin: Stdin, stdout: Stdout, stderr: Stderr, telling: bool) -> Running {
     let called = ClientSession::new(ClientSessionConfig::new());
     let session = called.session;
     let waiting = Waiting {
         used: 0,
         failed: false,
-        stdout: rt.stdout(),
-        stderr: rt.stderr(),
+        stdout,
+        stderr,
     };
     let standing = Standing {
         line: 0,
@@ -45,7 +45,7 @@ pub(crate) fn start(rt: HostRuntime, telling: bool) -> Running {
         going: true,
         space: u32::MAX,
         telling,
-        stdin: rt.stdin(),
+        stdin,
         waiting,
     };
     Running { standing, session }
