@@ -1,4 +1,4 @@
-// Times the reading of AMF0 bodies: the proved functions, linked from target/staticlib, on bodies made here.
+// Times the reading of AMF0 bodies: the proved functions, linked from crates/bench/out/libbench.a, on bodies made here.
 #include <stdint.h>
 #include <stdio.h>
 #include <stdlib.h>

@@ -167,7 +167,7 @@ def main():
     parser = argparse.ArgumentParser()
     parser.add_argument('--scripts', type=int, default=5000)
     parser.add_argument('--seed', type=int, default=1)
-    parser.add_argument('--ours', default=os.path.join(ROOT, 'target/bin/replay'))
+    parser.add_argument('--ours', default=os.path.join(ROOT, 'crates/replay/out/replay'))
     parser.add_argument('--reference', default=os.path.join(ROOT, 'target/differential/reference'))
     parser.add_argument('--cover', action='store_true')
     parser.add_argument('--differences', action='store_true')

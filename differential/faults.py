@@ -1,13 +1,13 @@
 #!/usr/bin/env python3
 """Plants the faults of faults_list.py, one at a time, and shows that a stored run catches each.
 
-  faults.py [--only WORDS..] [--table FILE]
+  faults.py [--only WORDS..] [--table FILE] [--jobs N]
   faults.py --check      no compile: every old text stands exactly once where the list says, every must-fail edit that it names is there
 
-The sources of `replay` are copied to target/faults with contracts and proofs left out (unproved.py). Each fault is planted there, the program is compiled
-and given both stored runs: crates/replay, whose answers are the model's, and crates/recorded, whose answers are the Rust's. What is counted is the lines
-of a script whose results differ. The status is 1 if a fault is caught by neither or can't be compiled. --only takes the faults whose name has one of the
-words; --table writes what came as a table.
+The sources of `replay` are copied to a folder of their own outside the checkout, with contracts and proofs left out (unproved.py). Each fault is planted
+there, the program is compiled and given both stored runs: crates/replay, whose answers are the model's, and crates/recorded, whose answers are the Rust's.
+What is counted is the lines of a script whose results differ. The status is 1 if a fault is caught by neither or can't be compiled. --only takes the faults
+whose name has one of the words; --table writes what came as a table; --jobs tries N faults at a time, each in some 15 s of one processor.
 """
 import argparse
 import collections
@@ -16,13 +16,14 @@ import re
 import resource
 import subprocess
 import sys
+import tempfile
 import time
+from concurrent.futures import ThreadPoolExecutor
 
 import faults_list
 from unproved import PATIENCE, ROOT, compiled, lay_out, read, sources, write
 
 PROGRAM, STORED = 'replay', ('replay', 'recorded')
-WORK = os.path.join(ROOT, 'target/faults')
 SECONDS = 60  # of computing, for a run
 
 
@@ -96,7 +97,7 @@ def limited():
 
 def run(program, given):
     """What it writes, and how it ended where that is no good end."""
-    with open(os.path.join(WORK, 'stdout'), 'w+b') as out:
+    with tempfile.TemporaryFile() as out:
         try:
             done = subprocess.run([program], input=given, stdout=out, stderr=subprocess.DEVNULL, timeout=PATIENCE, preexec_fn=limited)
             ended = 'ended with status %d' % done.returncode if done.returncode else ''
@@ -138,44 +139,46 @@ def said(lines, ended):
     return '%d%s' % (lines, ' (%s)' % ended if ended else '')
 
 
+def tried(found, changed, runs):
+    """What the stored runs caught of the program with these files changed; or None, and why it can't be compiled."""
+    with tempfile.TemporaryDirectory(prefix='fault-') as work:
+        crates = os.path.join(work, 'crates')
+        lay_out({**found, **changed}, crates)
+        program, why = compiled(PROGRAM, crates, work)
+        return program and [stored.caught(program) for stored in runs], why
+
+
 def main():
     parser = argparse.ArgumentParser()
     parser.add_argument('--check', action='store_true')
     parser.add_argument('--only', nargs='+', default=[''])
     parser.add_argument('--table')
+    parser.add_argument('--jobs', type=int, default=1)
     args = parser.parse_args()
     found = sources(PROGRAM)
     if check(found):
         sys.exit(1)
     if args.check:
         return
-    lay_out(found, WORK)
     runs = [Stored(crate) for crate in STORED]
-    program, why = compiled(PROGRAM, WORK)
-    if not program:
+    came, why = tried(found, {}, runs)
+    if not came:
         sys.exit('the sources can\'t be compiled:\n' + why)
-    for crate, stored in zip(STORED, runs):
-        if stored.caught(program)[0]:
+    for crate, (lines, _) in zip(STORED, came):
+        if lines:
             sys.exit('without a fault %s is not as stored' % crate)
     rows, counts, start = [], collections.Counter(), time.time()
     print('lines that differ: ' + ', '.join('%s (of %d)' % (crate, stored.given.count(b'\n')) for crate, stored in zip(STORED, runs)))
-    for group, name, edits in faults():
-        if not any(word in name for word in args.only):
-            continue
-        changed = planted(found, edits)
-        for path, text in changed.items():
-            write(os.path.join(WORK, 'crates', path), text)
-        program, why = compiled(PROGRAM, WORK)
-        for path in changed:
-            write(os.path.join(WORK, 'crates', path), found[path])
-        if not program:
-            counts['not compiled'] += 1
-            print('   NOT COMPILED  %s\n%s' % (name, why), flush=True)
-            continue
-        came = [stored.caught(program) for stored in runs]
-        counts.update([crate for crate, (lines, _) in zip(STORED, came) if lines] or ['neither'])
-        rows.append((group, name, ', '.join(sorted({w.partition(':')[0] for w in edits[::3]})), *[said(*c) for c in came]))
-        print('%s%7s %7s  %s' % ('' if any(c[0] for c in came) else 'NOT CAUGHT ', *rows[-1][3:], name), flush=True)
+    those = [fault for fault in faults() if any(word in fault[1] for word in args.only)]
+    with ThreadPoolExecutor(args.jobs) as pool:
+        for (group, name, edits), (came, why) in zip(those, pool.map(lambda fault: tried(found, planted(found, fault[2]), runs), those)):
+            if not came:
+                counts['not compiled'] += 1
+                print('   NOT COMPILED  %s\n%s' % (name, why), flush=True)
+                continue
+            counts.update([crate for crate, (lines, _) in zip(STORED, came) if lines] or ['neither'])
+            rows.append((group, name, ', '.join(sorted({w.partition(':')[0] for w in edits[::3]})), *[said(*c) for c in came]))
+            print('%s%7s %7s  %s' % ('' if any(c[0] for c in came) else 'NOT CAUGHT ', *rows[-1][3:], name), flush=True)
     if args.table:
         lines = ['| fault | file | replay | recorded |', '|---|---|---|---|'] + ['| %s | `%s` | %s | %s |' % row[1:] for row in rows]
         write(os.path.abspath(args.table), '\n'.join(lines) + '\n')

@@ -137,7 +137,7 @@ INCOMING = [
     ('a second Play.Start passes', 'session/src/notices.rt', 'stages::is_play_requested(state)', 'stages::is_play(state)'),
     ('Publish.Start keeps the stage', 'session/src/notices.rt', 'state: ClientState::Publishing,', 'state: ClientState::PublishRequested,'),
     ('Publish.Start clears the active stream',
-     'session/src/notices.rt', 'use crate::record::Called;\n', 'use crate::record::ActiveStream;\nuse crate::record::Called;\n',
+     'session/src/notices.rt', 'use crate::record::{Called,', 'use crate::record::{ActiveStream, Called,',
      'session/src/notices.rt:handle_publish_start', '            active,\n', '            active: ActiveStream::None,\n'),
     ('a bad notice comes to nothing', 'session/src/notices.rt', 'self.refused(ClientSessionError::InvalidOnStatusArguments)', 'self.quiet()'),
 ]

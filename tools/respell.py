@@ -18,7 +18,7 @@ TOKEN = re.compile(r"[^\s(){}\[\],;.|@\"«»·`]+")
 MORE = """
 stopPublishing stopPlayback windowSize setChunkSize isOne startedPublish startedPlay grantsPublish grantsPlay stopsPublishing stopsPlayback aCamera
 aText abortOf acceptedOf acknowledgementOf commandName glyphOf grantedOf messageCall noRequests noneOf numberValue openedPlace sameOf stoppedOf storedText
-withoutOf
+withoutOf amf0Data amf0Command amf3Data amf3Command
 """.split()
 # What port.py called the clauses that had no name, and what they are called here.
 CLAUSES = [

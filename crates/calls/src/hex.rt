@@ -1,8 +1,8 @@
 // Hexadecimal read, the numbers in it, and results written.
 ghost use Rattle.std.specs.Prelude.{◌≤◌, ◌<◌, length};
 
-use libc::STDOUT_FILENO;
 use octets::{Be16, Be32, Be64};
+use std::io::{Print, Stdout};
 
 fn nibble(b: u8) -> u8
     ensures { result < 16 }
@@ -73,25 +73,26 @@ pub fn rest(given: &[u8], at: usize) -> &[u8] {
     octets::part(given, at, given.len())
 }
 
-pub fn word(text: &[u8]) {
-    io::write_all(STDOUT_FILENO, text);
+// A write that fails is passed over.
+pub fn word(to: Stdout, text: &[u8]) {
+    let _ = to.write_all(text);
 }
 
-pub fn decimal(n: u64) {
-    io::print_decimal(STDOUT_FILENO, n);
+pub fn decimal(to: Stdout, n: u64) {
+    let _ = to.print(n);
 }
 
 // A space and a number.
-pub fn next(n: u64) {
-    word(b" ");
-    decimal(n);
+pub fn next(to: Stdout, n: u64) {
+    word(to, b" ");
+    decimal(to, n);
 }
 
-pub fn flag(b: bool) {
+pub fn flag(to: Stdout, b: bool) {
     if b {
-        word(b" 1");
+        word(to, b" 1");
     } else {
-        word(b" 0");
+        word(to, b" 0");
     }
 }
 
@@ -99,10 +100,11 @@ fn wide(x: u8) -> u64 {
     x as u64
 }
 
-pub fn digits(s: &[u8]) {
+pub fn digits(to: Stdout, s: &[u8]) {
     let mut i = 0;
     while i < s.len() {
-        io::print_hex(STDOUT_FILENO, wide(s[i]), 2);
+        let n = wide(s[i]);
+        let _ = print!(to; "{n:02x}");
         i += 1;
     }
 }

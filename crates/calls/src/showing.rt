@@ -8,6 +8,7 @@ use session::{
     ActiveStream, ClientSession, ClientSessionConfig, ClientSessionError, ClientSessionResult,
     ClientState, Link, Outcome, Packet, PeerWindow,
 };
+use std::io::Stdout;
 
 fn stage(s: ClientState) -> u64 {
     match s {
@@ -20,110 +21,110 @@ fn stage(s: ClientState) -> u64 {
     }
 }
 
-fn refused(e: ClientSessionError) {
-    hex::word(b"refused");
+fn refused(to: Stdout, e: ClientSessionError) {
+    hex::word(to, b"refused");
     match e {
-        ClientSessionError::CantConnectWhileAlreadyConnected => hex::next(1),
+        ClientSessionError::CantConnectWhileAlreadyConnected => hex::next(to, 1),
         ClientSessionError::SessionInInvalidState(s) => {
-            hex::next(2);
-            hex::next(stage(s))
+            hex::next(to, 2);
+            hex::next(to, stage(s))
         }
-        ClientSessionError::NoKnownActiveStreamIdWhenRequired => hex::next(3),
-        ClientSessionError::CreateStreamFailed => hex::next(4),
-        ClientSessionError::CreateStreamResponseHadNoStreamNumber => hex::next(5),
-        ClientSessionError::InvalidOnStatusArguments => hex::next(6),
-        ClientSessionError::InvalidMaxChunkSize => hex::next(7),
-        ClientSessionError::MalformedBody => hex::next(8),
-        ClientSessionError::Length => hex::next(9),
-        ClientSessionError::EightOpen => hex::next(10),
-        ClientSessionError::Spent => hex::next(11),
-        ClientSessionError::Space => hex::next(12),
-        ClientSessionError::NotASession => hex::next(13),
+        ClientSessionError::NoKnownActiveStreamIdWhenRequired => hex::next(to, 3),
+        ClientSessionError::CreateStreamFailed => hex::next(to, 4),
+        ClientSessionError::CreateStreamResponseHadNoStreamNumber => hex::next(to, 5),
+        ClientSessionError::InvalidOnStatusArguments => hex::next(to, 6),
+        ClientSessionError::InvalidMaxChunkSize => hex::next(to, 7),
+        ClientSessionError::MalformedBody => hex::next(to, 8),
+        ClientSessionError::Length => hex::next(to, 9),
+        ClientSessionError::EightOpen => hex::next(to, 10),
+        ClientSessionError::Spent => hex::next(to, 11),
+        ClientSessionError::Space => hex::next(to, 12),
+        ClientSessionError::NotASession => hex::next(to, 13),
     }
 }
 
-fn packet(p: Packet) {
+fn packet(to: Stdout, p: Packet) {
     let time = p.time;
     let stream = p.stream;
-    hex::word(b"out");
-    hex::next(p.type_id as u64);
-    hex::next(time.0 as u64);
-    hex::next(stream.0 as u64);
-    hex::flag(p.droppable);
-    hex::flag(p.uncompressed);
-    hex::next(p.start as u64);
-    hex::next(p.len as u64);
+    hex::word(to, b"out");
+    hex::next(to, p.type_id as u64);
+    hex::next(to, time.0 as u64);
+    hex::next(to, stream.0 as u64);
+    hex::flag(to, p.droppable);
+    hex::flag(to, p.uncompressed);
+    hex::next(to, p.start as u64);
+    hex::next(to, p.len as u64);
 }
 
-fn result(r: ClientSessionResult) {
+fn result(to: Stdout, r: ClientSessionResult) {
     match r {
-        ClientSessionResult::OutboundResponse(p) => packet(p),
-        ClientSessionResult::RaisedEvent(_) => hex::word(b"event"),
-        ClientSessionResult::UnhandleableMessageReceived(_) => hex::word(b"unhandled"),
+        ClientSessionResult::OutboundResponse(p) => packet(to, p),
+        ClientSessionResult::RaisedEvent(_) => hex::word(to, b"event"),
+        ClientSessionResult::UnhandleableMessageReceived(_) => hex::word(to, b"unhandled"),
     }
 }
 
-pub fn outcome(o: Outcome) {
+pub fn outcome(to: Stdout, o: Outcome) {
     match o {
-        Outcome::Refused(e) => refused(e),
-        Outcome::Nothing => hex::word(b"none"),
-        Outcome::One(r) => result(r),
-        Outcome::Two(_, _) => hex::word(b"two"),
-        Outcome::Accepted(_, _) => hex::word(b"accepted"),
+        Outcome::Refused(e) => refused(to, e),
+        Outcome::Nothing => hex::word(to, b"none"),
+        Outcome::One(r) => result(to, r),
+        Outcome::Two(_, _) => hex::word(to, b"two"),
+        Outcome::Accepted(_, _) => hex::word(to, b"accepted"),
         Outcome::Pinged(r, time) => {
-            hex::word(b"pinged ");
-            hex::decimal(time.0 as u64);
-            hex::word(b" ");
-            packet(r)
+            hex::word(to, b"pinged ");
+            hex::decimal(to, time.0 as u64);
+            hex::word(to, b" ");
+            packet(to, r)
         }
     }
 }
 
 // A text's bytes, `.` where there are none; of one that is too long its length.
-fn text(t: Text) {
+fn text(to: Stdout, t: Text) {
     let len = t.len;
     if 255 < len {
-        hex::word(b"over ");
-        hex::decimal(len as u64);
+        hex::word(to, b"over ");
+        hex::decimal(to, len as u64);
         return;
     }
     if len == 0 {
-        hex::word(b".");
+        hex::word(to, b".");
         return;
     }
     let bytes = t.bytes;
-    hex::digits(&bytes[..len]);
+    hex::digits(to, &bytes[..len]);
 }
 
-fn publish_type(t: PublishRequestType) {
+fn publish_type(to: Stdout, t: PublishRequestType) {
     match t {
-        PublishRequestType::Live => hex::word(b" live "),
-        PublishRequestType::Record => hex::word(b" record "),
-        PublishRequestType::Append => hex::word(b" append "),
+        PublishRequestType::Live => hex::word(to, b" live "),
+        PublishRequestType::Record => hex::word(to, b" record "),
+        PublishRequestType::Append => hex::word(to, b" append "),
     }
 }
 
-fn purpose(p: TransactionPurpose) {
+fn purpose(to: Stdout, p: TransactionPurpose) {
     match p {
-        TransactionPurpose::PlayRequest => hex::word(b" play "),
-        TransactionPurpose::PublishRequest(t) => publish_type(t),
+        TransactionPurpose::PlayRequest => hex::word(to, b" play "),
+        TransactionPurpose::PublishRequest(t) => publish_type(to, t),
     }
 }
 
-fn kind(k: OutstandingTransaction) {
+fn kind(to: Stdout, k: OutstandingTransaction) {
     match k {
-        OutstandingTransaction::ConnectionRequested => hex::word(b" connect "),
-        OutstandingTransaction::CreateStream(p) => purpose(p),
+        OutstandingTransaction::ConnectionRequested => hex::word(to, b" connect "),
+        OutstandingTransaction::CreateStream(p) => purpose(to, p),
     }
 }
 
-fn open(place: Place) {
+fn open(to: Stdout, place: Place) {
     let slot = place.slot;
     if let Slot::Open(number, k) = slot {
-        hex::decimal(number.0 as u64);
-        kind(k);
+        hex::decimal(to, number.0 as u64);
+        kind(to, k);
         let t = place.text;
-        text(t);
+        text(to, t);
     }
 }
 
@@ -159,78 +160,78 @@ fn first(places: [Place; 8], from: u64) -> u64
 }
 
 // The open requests, in the order of their numbers; `-` where none is open.
-fn requests(places: [Place; 8]) {
+fn requests(to: Stdout, places: [Place; 8]) {
     let mut from = first(places, 0);
     if from == 34359738368 {
-        hex::word(b"-");
+        hex::word(to, b"-");
         return;
     }
     let mut n: usize = 0;
     while n < 8 {
         let i = (from % 8) as usize;
         let place = places[i];
-        open(place);
+        open(to, place);
         from = first(places, from + 1);
         if from == 34359738368 {
             return;
         }
-        hex::word(b", ");
+        hex::word(to, b", ");
         n += 1;
     }
 }
 
-fn active(a: ActiveStream) {
+fn active(to: Stdout, a: ActiveStream) {
     match a {
-        ActiveStream::None => hex::word(b" -"),
-        ActiveStream::Some(stream) => hex::next(stream.0 as u64),
+        ActiveStream::None => hex::word(to, b" -"),
+        ActiveStream::Some(stream) => hex::next(to, stream.0 as u64),
     }
 }
 
-fn window(w: PeerWindow) {
+fn window(to: Stdout, w: PeerWindow) {
     match w {
-        PeerWindow::None => hex::word(b" -"),
-        PeerWindow::Some(n) => hex::next(n as u64),
+        PeerWindow::None => hex::word(to, b" -"),
+        PeerWindow::Some(n) => hex::next(to, n as u64),
     }
 }
 
-fn link(l: Link) {
+fn link(to: Stdout, l: Link) {
     let w = l.window;
-    hex::decimal(l.chunk as u64);
-    window(w);
-    hex::next(l.pending as u64);
-    hex::next(l.total);
+    hex::decimal(to, l.chunk as u64);
+    window(to, w);
+    hex::next(to, l.pending as u64);
+    hex::next(to, l.total);
 }
 
 // Stage, active stream and next number; the open requests; the link.
-pub fn record(session: ClientSession) {
+pub fn record(to: Stdout, session: ClientSession) {
     let progress = session.progress;
     let state = progress.state;
     let stream = progress.active;
-    hex::decimal(stage(state));
-    active(stream);
+    hex::decimal(to, stage(state));
+    active(to, stream);
     let all: Requests = session.requests;
-    hex::next(all.next);
-    hex::word(b"\t");
+    hex::next(to, all.next);
+    hex::word(to, b"\t");
     let places = all.places;
-    requests(places);
-    hex::word(b"\t");
+    requests(to, places);
+    hex::word(to, b"\t");
     let l = session.link;
-    link(l);
+    link(to, l);
 }
 
 // Flash version; buffer length, window size and chunk size; tcUrl, `-` where none is configured.
-pub fn settings(session: ClientSession) {
+pub fn settings(to: Stdout, session: ClientSession) {
     let config: ClientSessionConfig = session.config;
     let flash = config.flash_version;
-    text(flash);
-    hex::next(config.playback_buffer_length_ms as u64);
-    hex::next(config.window_ack_size as u64);
-    hex::next(config.chunk_size as u64);
-    hex::word(b" ");
+    text(to, flash);
+    hex::next(to, config.playback_buffer_length_ms as u64);
+    hex::next(to, config.window_ack_size as u64);
+    hex::next(to, config.chunk_size as u64);
+    hex::word(to, b" ");
     if config.has_tc_url {
         let url = config.tc_url;
-        text(url);
+        text(to, url);
         return;
     }
-    hex::word(b"-");
+    hex::word(to, b"-");
 }

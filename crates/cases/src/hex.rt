@@ -1,7 +1,7 @@
 // Hexadecimal read and results written.
 ghost use Rattle.std.specs.Prelude.{◌<◌, ◌≤◌, length};
 
-use libc::STDOUT_FILENO;
+use std::io::{Print, Stdout};
 
 fn nibble(b: u8) -> u8
     ensures { result < 16 }
@@ -34,27 +34,29 @@ pub fn decode(s: &[u8], out: &mut [u8]) -> usize
     n
 }
 
-pub fn word(text: &[u8]) {
-    io::write_all(STDOUT_FILENO, text);
+// A write that fails is passed over.
+pub fn word(to: Stdout, text: &[u8]) {
+    let _ = to.write_all(text);
 }
 
-pub fn tab() {
-    word(b"\t");
+pub fn tab(to: Stdout) {
+    word(to, b"\t");
 }
 
-pub fn decimal(n: u64) {
-    io::print_decimal(STDOUT_FILENO, n);
+pub fn decimal(to: Stdout, n: u64) {
+    let _ = to.print(n);
 }
 
-pub fn hex(n: u64, width: usize) {
-    io::print_hex(STDOUT_FILENO, n, width);
+// With zeros in front up to that width.
+pub fn hex(to: Stdout, n: u64, width: usize) {
+    let _ = print!(to; "{n:0width$x}");
 }
 
-pub fn flag(b: bool) {
+pub fn flag(to: Stdout, b: bool) {
     if b {
-        word(b"1");
+        word(to, b"1");
     } else {
-        word(b"0");
+        word(to, b"0");
     }
 }
 
@@ -68,10 +70,10 @@ fn wide(x: u8) -> u64 {
     x as u64
 }
 
-pub fn digits(s: &[u8]) {
+pub fn digits(to: Stdout, s: &[u8]) {
     let mut i = 0;
     while i < s.len() {
-        io::print_hex(STDOUT_FILENO, wide(s[i]), 2);
+        hex(to, wide(s[i]), 2);
         i += 1;
     }
 }

@@ -5,202 +5,203 @@ use messages::{
     Argument, Command, CommandName, DataMessage, OnStatus, OptionBool, OptionF32, OptionU32,
     PeerBandwidthLimitType, RtmpMessage, StreamMetadata, UserControlEvent,
 };
+use std::io::Stdout;
 
 // A word and a number.
-fn say(word: &[u8], n: u32) {
-    hex::word(word);
-    hex::word(b" ");
-    hex::decimal(n as u64);
+fn say(to: Stdout, word: &[u8], n: u32) {
+    hex::word(to, word);
+    hex::word(to, b" ");
+    hex::decimal(to, n as u64);
 }
 
-fn place(n: usize) {
-    hex::word(b" ");
-    hex::decimal(n as u64);
+fn place(to: Stdout, n: usize) {
+    hex::word(to, b" ");
+    hex::decimal(to, n as u64);
 }
 
-fn limit(l: PeerBandwidthLimitType) {
+fn limit(to: Stdout, l: PeerBandwidthLimitType) {
     match l {
-        PeerBandwidthLimitType::Hard => hex::word(b" hard"),
-        PeerBandwidthLimitType::Soft => hex::word(b" soft"),
-        PeerBandwidthLimitType::Dynamic => hex::word(b" dynamic"),
+        PeerBandwidthLimitType::Hard => hex::word(to, b" hard"),
+        PeerBandwidthLimitType::Soft => hex::word(to, b" soft"),
+        PeerBandwidthLimitType::Dynamic => hex::word(to, b" dynamic"),
     }
 }
 
-fn event(e: UserControlEvent) {
+fn event(to: Stdout, e: UserControlEvent) {
     match e {
-        UserControlEvent::StreamBegin(x) => say(b"begin", x.0),
-        UserControlEvent::StreamEof(x) => say(b"eof", x.0),
-        UserControlEvent::StreamDry(x) => say(b"dry", x.0),
+        UserControlEvent::StreamBegin(x) => say(to, b"begin", x.0),
+        UserControlEvent::StreamEof(x) => say(to, b"eof", x.0),
+        UserControlEvent::StreamDry(x) => say(to, b"dry", x.0),
         UserControlEvent::SetBufferLength { stream, length } => {
-            say(b"buffer", stream.0);
-            say(b"", length)
+            say(to, b"buffer", stream.0);
+            say(to, b"", length)
         }
-        UserControlEvent::StreamIsRecorded(x) => say(b"recorded", x.0),
-        UserControlEvent::PingRequest(t) => say(b"ping", t.0),
-        UserControlEvent::PingResponse(t) => say(b"pong", t.0),
+        UserControlEvent::StreamIsRecorded(x) => say(to, b"recorded", x.0),
+        UserControlEvent::PingRequest(t) => say(to, b"ping", t.0),
+        UserControlEvent::PingResponse(t) => say(to, b"pong", t.0),
     }
 }
 
-fn name(n: CommandName) {
+fn name(to: Stdout, n: CommandName) {
     match n {
-        CommandName::Result => hex::word(b"command result"),
-        CommandName::Error => hex::word(b"command error"),
-        CommandName::OnStatus => hex::word(b"command onstatus"),
-        CommandName::Other => hex::word(b"command other"),
+        CommandName::Result => hex::word(to, b"command result"),
+        CommandName::Error => hex::word(to, b"command error"),
+        CommandName::OnStatus => hex::word(to, b"command onstatus"),
+        CommandName::Other => hex::word(to, b"command other"),
     }
 }
 
-fn first(a: Argument) {
+fn first(to: Stdout, a: Argument) {
     match a {
-        Argument::Absent => hex::word(b" absent"),
+        Argument::Absent => hex::word(to, b" absent"),
         Argument::Number(bits) => {
-            hex::word(b" number ");
-            hex::hex(bits, 16)
+            hex::word(to, b" number ");
+            hex::hex(to, bits, 16)
         }
-        Argument::Object => hex::word(b" object"),
-        Argument::Other => hex::word(b" other"),
+        Argument::Object => hex::word(to, b" object"),
+        Argument::Other => hex::word(to, b" other"),
     }
 }
 
-fn code(c: OnStatus) {
+fn code(to: Stdout, c: OnStatus) {
     match c {
-        OnStatus::PlayStart => hex::word(b" play"),
-        OnStatus::PublishStart => hex::word(b" publish"),
+        OnStatus::PlayStart => hex::word(to, b" play"),
+        OnStatus::PublishStart => hex::word(to, b" publish"),
         OnStatus::Other { start, len } => {
-            hex::word(b" other");
-            place(start);
-            place(len)
+            hex::word(to, b" other");
+            place(to, start);
+            place(to, len)
         }
-        OnStatus::Invalid => hex::word(b" invalid"),
+        OnStatus::Invalid => hex::word(to, b" invalid"),
     }
 }
 
 // The code, where the command is an onStatus with an object as its first argument.
-fn notice(n: CommandName, a: Argument, at: usize, body: &[u8]) {
+fn notice(to: Stdout, n: CommandName, a: Argument, at: usize, body: &[u8]) {
     let CommandName::OnStatus = n else {
         return;
     };
     let Argument::Object = a else {
         return;
     };
-    code(messages::on_status_code(body, at))
+    code(to, messages::on_status_code(body, at))
 }
 
-fn command(c: Command, body: &[u8]) {
+fn command(to: Stdout, c: Command, body: &[u8]) {
     let n = c.name;
     let a = c.first;
-    name(n);
-    place(c.start);
-    place(c.len);
-    hex::word(b" ");
-    hex::hex(c.number, 16);
-    place(c.object);
-    place(c.args);
-    first(a);
-    notice(n, a, c.args, body);
+    name(to, n);
+    place(to, c.start);
+    place(to, c.len);
+    hex::word(to, b" ");
+    hex::hex(to, c.number, 16);
+    place(to, c.object);
+    place(to, c.args);
+    first(to, a);
+    notice(to, n, a, c.args, body);
 }
 
-fn whole(v: OptionU32) {
+fn whole(to: Stdout, v: OptionU32) {
     match v {
-        OptionU32::Some(n) => say(b"", n),
-        OptionU32::None => hex::word(b" -"),
+        OptionU32::Some(n) => say(to, b"", n),
+        OptionU32::None => hex::word(to, b" -"),
     }
 }
 
-fn rate(v: OptionF32) {
+fn rate(to: Stdout, v: OptionF32) {
     match v {
         OptionF32::Some(x) => {
-            hex::word(b" ");
-            hex::hex(numbers::narrow_bits(numbers::widen(x)) as u64, 8)
+            hex::word(to, b" ");
+            hex::hex(to, numbers::narrow_bits(numbers::widen(x)) as u64, 8)
         }
-        OptionF32::None => hex::word(b" -"),
+        OptionF32::None => hex::word(to, b" -"),
     }
 }
 
-fn flag(v: OptionBool) {
+fn flag(to: Stdout, v: OptionBool) {
     match v {
         OptionBool::Some(b) => {
-            hex::word(b" ");
-            hex::flag(b)
+            hex::word(to, b" ");
+            hex::flag(to, b)
         }
-        OptionBool::None => hex::word(b" -"),
+        OptionBool::None => hex::word(to, b" -"),
     }
 }
 
-fn text(v: TextAt) {
+fn text(to: Stdout, v: TextAt) {
     match v {
         TextAt::At { start, len } => {
-            place(start);
-            hex::word(b",");
-            hex::decimal(len as u64)
+            place(to, start);
+            hex::word(to, b",");
+            hex::decimal(to, len as u64)
         }
-        TextAt::Absent => hex::word(b" -"),
+        TextAt::Absent => hex::word(to, b" -"),
     }
 }
 
-fn fields(m: StreamMetadata) {
+fn fields(to: Stdout, m: StreamMetadata) {
     let width = m.video_width;
-    whole(width);
+    whole(to, width);
     let height = m.video_height;
-    whole(height);
+    whole(to, height);
     let video_codec = m.video_codec_id;
-    whole(video_codec);
+    whole(to, video_codec);
     let frames = m.video_frame_rate;
-    rate(frames);
+    rate(to, frames);
     let video_rate = m.video_bitrate_kbps;
-    whole(video_rate);
+    whole(to, video_rate);
     let audio_codec = m.audio_codec_id;
-    whole(audio_codec);
+    whole(to, audio_codec);
     let audio_rate = m.audio_bitrate_kbps;
-    whole(audio_rate);
+    whole(to, audio_rate);
     let samples = m.audio_sample_rate;
-    whole(samples);
+    whole(to, samples);
     let channels = m.audio_channels;
-    whole(channels);
+    whole(to, channels);
     let stereo = m.audio_is_stereo;
-    flag(stereo);
+    flag(to, stereo);
     let encoder = m.encoder;
-    text(encoder);
+    text(to, encoder);
 }
 
-fn data(d: DataMessage, body: &[u8]) {
+fn data(to: Stdout, d: DataMessage, body: &[u8]) {
     match d {
         DataMessage::OnMetaData(at) => {
-            hex::word(b"metadata");
-            place(at);
-            fields(messages::read_metadata(body, at))
+            hex::word(to, b"metadata");
+            place(to, at);
+            fields(to, messages::read_metadata(body, at))
         }
-        DataMessage::Other => hex::word(b"data"),
+        DataMessage::Other => hex::word(to, b"data"),
     }
 }
 
-fn show(m: RtmpMessage, body: &[u8]) {
+fn show(to: Stdout, m: RtmpMessage, body: &[u8]) {
     match m {
-        RtmpMessage::Unknown => hex::word(b"unknown"),
-        RtmpMessage::Abort(n) => say(b"abort", n),
-        RtmpMessage::Acknowledgement(n) => say(b"ack", n),
-        RtmpMessage::Amf0Command(c) => command(c, body),
-        RtmpMessage::Amf0Data(d) => data(d, body),
-        RtmpMessage::AudioData => hex::word(b"audio"),
-        RtmpMessage::SetChunkSize(n) => say(b"chunk", n),
+        RtmpMessage::Unknown => hex::word(to, b"unknown"),
+        RtmpMessage::Abort(n) => say(to, b"abort", n),
+        RtmpMessage::Acknowledgement(n) => say(to, b"ack", n),
+        RtmpMessage::Amf0Command(c) => command(to, c, body),
+        RtmpMessage::Amf0Data(d) => data(to, d, body),
+        RtmpMessage::AudioData => hex::word(to, b"audio"),
+        RtmpMessage::SetChunkSize(n) => say(to, b"chunk", n),
         RtmpMessage::SetPeerBandwidth { size, limit: l } => {
-            say(b"bandwidth", size);
-            limit(l)
+            say(to, b"bandwidth", size);
+            limit(to, l)
         }
-        RtmpMessage::UserControl(e) => event(e),
-        RtmpMessage::VideoData => hex::word(b"video"),
-        RtmpMessage::WindowAcknowledgement(n) => say(b"window", n),
-        RtmpMessage::Malformed => hex::word(b"malformed"),
+        RtmpMessage::UserControl(e) => event(to, e),
+        RtmpMessage::VideoData => hex::word(to, b"video"),
+        RtmpMessage::WindowAcknowledgement(n) => say(to, b"window", n),
+        RtmpMessage::Malformed => hex::word(to, b"malformed"),
     }
 }
 
 // The first byte is the message's type; the body follows.
-pub fn case(given: &[u8]) {
+pub fn case(to: Stdout, given: &[u8]) {
     if given.len() < 1 {
         return;
     }
     let body = &given[1..];
-    show(messages::to_rtmp_message(given[0], body), body);
+    show(to, messages::to_rtmp_message(given[0], body), body);
 }
 
 // 1 where a body of type 4 is an event with its values.
@@ -222,7 +223,7 @@ fn with_event(space: &mut [u8], e: u16) {
 }
 
 // All 65,536 events of type 4, with as many more bytes as are given: how many are well formed.
-pub fn events(given: &[u8], space: &mut [u8]) {
+pub fn events(to: Stdout, given: &[u8], space: &mut [u8]) {
     if space.len() < 2 {
         return;
     }
@@ -240,5 +241,5 @@ pub fn events(given: &[u8], space: &mut [u8]) {
     }
     with_event(space, k);
     count = sum(count, is_event(messages::to_rtmp_message(4, &space[0..e])));
-    hex::decimal(count);
+    hex::decimal(to, count);
 }

@@ -9,6 +9,7 @@ use messages::{
     StreamNumber, TransactionNumber,
 };
 use octets::{Be32, Wrote};
+use std::io::Stdout;
 
 // 4 bytes as a number, 0 where they aren't there.
 fn number(given: &[u8], at: usize) -> u32 {
@@ -26,15 +27,15 @@ fn byte(given: &[u8], at: usize) -> u8 {
     0
 }
 
-fn show(wrote: Wrote, out: &[u8]) {
+fn show(to: Stdout, wrote: Wrote, out: &[u8]) {
     match wrote {
-        Wrote::Done(n) => hex::digits(octets::part(out, 0, n)),
-        Wrote::NoSpace => hex::word(b"no space"),
+        Wrote::Done(n) => hex::digits(to, octets::part(out, 0, n)),
+        Wrote::NoSpace => hex::word(to, b"no space"),
     }
 }
 
 // The number, then two bytes with the lengths of app and flash version, one that says whether a tcUrl is configured; then the three texts.
-fn connect(given: &[u8], out: &mut [u8]) {
+fn connect(to: Stdout, given: &[u8], out: &mut [u8]) {
     let a = hex::size(byte(given, 5));
     let f = hex::size(byte(given, 6));
     let app = octets::part(given, 8, a);
@@ -51,16 +52,16 @@ fn connect(given: &[u8], out: &mut [u8]) {
     }
     let n = TransactionNumber(number(given, 1));
     let wrote = bodies::write_connect(out, n, app, flash, byte(given, 7) == 1, url);
-    show(wrote, out);
+    show(to, wrote, out);
 }
 
-fn play(given: &[u8], out: &mut [u8]) {
+fn play(to: Stdout, given: &[u8], out: &mut [u8]) {
     let key = octets::part(given, 9, given.len());
     if 255 < key.len() {
         return;
     }
     let wrote = bodies::write_play(out, StreamNumber(number(given, 1)), number(given, 5), key);
-    show(wrote, out);
+    show(to, wrote, out);
 }
 
 fn kind(b: u8) -> PublishRequestType {
@@ -71,13 +72,13 @@ fn kind(b: u8) -> PublishRequestType {
     }
 }
 
-fn publish(given: &[u8], out: &mut [u8]) {
+fn publish(to: Stdout, given: &[u8], out: &mut [u8]) {
     let key = octets::part(given, 2, given.len());
     if 255 < key.len() {
         return;
     }
     let wrote = bodies::write_publish(out, key, kind(byte(given, 1)));
-    show(wrote, out);
+    show(to, wrote, out);
 }
 
 // A field of metadata: byte `flag` says whether it is there, and 4 bytes at `at` have its number.
@@ -116,7 +117,7 @@ fn encoder(given: &[u8], flag: usize) -> TextAt
 }
 
 // Eleven bytes say which fields are there; then nine numbers of 4 bytes, stereo, and the encoder's text.
-fn metadata(given: &[u8], out: &mut [u8]) {
+fn metadata(to: Stdout, given: &[u8], out: &mut [u8]) {
     let m = StreamMetadata {
         video_width: whole(given, 1, 12),
         video_height: whole(given, 2, 16),
@@ -131,7 +132,7 @@ fn metadata(given: &[u8], out: &mut [u8]) {
         encoder: encoder(given, 11),
     };
     let wrote = bodies::write_metadata(out, m, given);
-    show(wrote, out);
+    show(to, wrote, out);
 }
 
 // One of the bodies that hold no text.
@@ -149,20 +150,20 @@ fn short(given: &[u8], out: &mut [u8]) -> Wrote {
 
 // The first byte says which body: 1 connect, 2 createStream, 3 deleteStream, 4 SetBufferLength and play, 5 publish, 6 and 7 ping request and
 // response, 8 acknowledgement, 9 window and chunk size, 10 metadata.
-pub fn case(given: &[u8], out: &mut [u8]) {
+pub fn case(to: Stdout, given: &[u8], out: &mut [u8]) {
     let which = byte(given, 0);
     if which == 1 {
-        return connect(given, out);
+        return connect(to, given, out);
     }
     if which == 4 {
-        return play(given, out);
+        return play(to, given, out);
     }
     if which == 5 {
-        return publish(given, out);
+        return publish(to, given, out);
     }
     if which == 10 {
-        return metadata(given, out);
+        return metadata(to, given, out);
     }
     let wrote = short(given, out);
-    show(wrote, out);
+    show(to, wrote, out);
 }

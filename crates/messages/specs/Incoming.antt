@@ -143,8 +143,8 @@ decode t s =
     (cond (eqb t (type_number type.peer_bandwidth)) (whole (λ b. peer_bandwidth b.size b.limit) (bandwidth_of s))
     (cond (eqb t (type_number type.audio)) audio
     (cond (eqb t (type_number type.video)) video
-    (cond (eqb t (type_number type.amf3Data)) (whole values (data_of s))
-    (cond (eqb t (type_number type.amf3Command)) (whole command (command_of (after_zero s)))
-    (cond (eqb t (type_number type.amf0Data)) (whole values (data_of s))
-    (cond (eqb t (type_number type.amf0Command)) (whole command (command_of s))
+    (cond (eqb t (type_number type.amf3_data)) (whole values (data_of s))
+    (cond (eqb t (type_number type.amf3_command)) (whole command (command_of (after_zero s)))
+    (cond (eqb t (type_number type.amf0_data)) (whole values (data_of s))
+    (cond (eqb t (type_number type.amf0_command)) (whole command (command_of s))
     unknown)))))))))))

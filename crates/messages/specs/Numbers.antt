@@ -9,7 +9,7 @@ use Rattle.messages.specs.declared.rtmp_message.UserControlEvent.TheVariants.{St
 -- the message types that have a meaning here; every other is unknown
 pub data MessageType : Type 0 where
   set_chunk_size abort acknowledgement user_control window_size peer_bandwidth : MessageType
-  audio video amf3Data amf3Command amf0Data amf0Command : MessageType
+  audio video amf3_data amf3_command amf0_data amf0_command : MessageType
 
 -- sections 5.4.1 to 5.4.5, user control messages in 6.2 and 7.1.7; audio in 7.1.4 and video in 7.1.5; data in 7.1.2; commands in 7.1.1
 abbrev pub type_number : MessageType → ℕ
@@ -21,10 +21,10 @@ type_number window_size = 5
 type_number peer_bandwidth = 6
 type_number audio = 8
 type_number video = 9
-type_number amf3Data = 15
-type_number amf3Command = 17
-type_number amf0Data = 18
-type_number amf0Command = 20
+type_number amf3_data = 15
+type_number amf3_command = 17
+type_number amf0_data = 18
+type_number amf0_command = 20
 
 -- section 7.1.7
 abbrev pub event_number : UserControlEvent → ℕ

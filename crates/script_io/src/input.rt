@@ -1,16 +1,22 @@
 // Standard input, a piece at a time. A piece may end anywhere in a line; what has no end yet is kept at the start of buf.
-ghost use Rattle.std.specs.Prelude.{◌≤◌, length};
+ghost use Rattle.std.specs.Prelude.{◌+◌, ◌≤◌, length, IfOk};
 
 use crate::lines::{Running, Standing};
 use crate::{lines, results, waiting};
-use libc::{STDERR_FILENO, STDIN_FILENO};
 use script::Why;
+use std::io;
+use std::io::{Read, Stdin};
 
 // The line that fills the buffer is passed over, to its end.
 fn too_long(st: Standing) -> Standing {
     let mut after = st;
     if !st.skip {
-        results::complain(std::num::wrapping_add_u64(st.line, 1), Why::LineLength);
+        let waiting = st.waiting;
+        results::complain(
+            waiting.stderr,
+            std::num::wrapping_add_u64(st.line, 1),
+            Why::LineLength,
+        );
     }
     after.held = 0;
     after.skip = true;
@@ -25,7 +31,8 @@ fn stopped(st: Standing) -> Standing {
 
 // A line that was cut off by the failure isn't run.
 fn unreadable(st: Standing) -> Standing {
-    io::write_all(STDERR_FILENO, b"card: standard input can't be read\n");
+    let waiting = st.waiting;
+    waiting::complain(waiting.stderr, b"card: standard input can't be read\n");
     stopped(st)
 }
 
@@ -82,16 +89,17 @@ fn taken_in(
 }
 
 // One read, after the bytes that are held.
-fn read_after(buf: &mut [u8], held: usize) -> isize
+fn read_after(from: Stdin, buf: &mut [u8], held: usize) -> io::Result<usize>
     requires { held ≤ length buf.old }
+    ensures { IfOk result (λ n. held + n ≤ length buf.new) }
 {
-    libc::read(STDIN_FILENO, &mut buf[held..])
+    let mut input = from;
+    input.read(&mut buf[held..])
 }
 
-// What a read that answered `got` brought.
+// What a read brings.
 fn brought(
     running: Running,
-    got: isize,
     buf: &mut [u8],
     held: usize,
     body: &mut [u8],
@@ -100,15 +108,12 @@ fn brought(
 ) -> Running
     requires { held ≤ length buf.old }
 {
-    let n = io::count(got, &buf[held..]);
-    if got < 0 {
-        let st = running.standing;
-        return lines::with_standing(running, unreadable(st));
+    let st = running.standing;
+    match read_after(st.stdin, buf, held) {
+        Err(_) => lines::with_standing(running, unreadable(st)),
+        Ok(0) => finish(running, octets::part(buf, 0, held), body, out, text),
+        Ok(n) => taken_in(running, buf, held, held + n, body, out, text),
     }
-    if n == 0 {
-        return finish(running, octets::part(buf, 0, held), body, out, text);
-    }
-    taken_in(running, buf, held, held + n, body, out, text)
 }
 
 // One read, and the lines that it ends.
@@ -124,8 +129,7 @@ fn turn(
     if buf.len() <= held {
         return lines::with_standing(running, too_long(st));
     }
-    let got = read_after(buf, held);
-    brought(running, got, buf, held, body, out, text)
+    brought(running, buf, held, body, out, text)
 }
 
 // Writes the results that wait; one that can't be written ends the run.

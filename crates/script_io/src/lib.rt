@@ -1,4 +1,6 @@
 // A script run from standard input: lines come in, result lines go out, and a line that can't be read gets a message on standard error.
+#![tactic(auto)]
+
 mod input;
 mod lines;
 mod open;
@@ -6,10 +8,21 @@ mod results;
 mod values;
 mod waiting;
 
+use std::io::{Stderr, Stdin, Stdout};
+
 // Until the input ends or can't be read, or a result can't be written. A line longer than `buf`, or a body longer than `body`, isn't run; `out` is lent
 // to the calls, and results wait in `text`.
-fn go_on(telling: bool, buf: &mut [u8], body: &mut [u8], out: &mut [u8], text: &mut [u8]) {
-    let mut running = lines::start(telling);
+fn go_on(
+    stdin: Stdin,
+    stdout: Stdout,
+    stderr: Stderr,
+    telling: bool,
+    buf: &mut [u8],
+    body: &mut [u8],
+    out: &mut [u8],
+    text: &mut [u8],
+) {
+    let mut running = lines::start(stdin, stdout, stderr, telling);
     let mut turns = u64::MAX;
     while turns > 0 {
         turns -= 1;
@@ -22,11 +35,27 @@ fn go_on(telling: bool, buf: &mut [u8], body: &mut [u8], out: &mut [u8], text: &
 }
 
 // Document 01's result lines.
-pub fn run(buf: &mut [u8], body: &mut [u8], out: &mut [u8], text: &mut [u8]) {
-    go_on(false, buf, body, out, text)
+pub fn run(
+    stdin: Stdin,
+    stdout: Stdout,
+    stderr: Stderr,
+    buf: &mut [u8],
+    body: &mut [u8],
+    out: &mut [u8],
+    text: &mut [u8],
+) {
+    go_on(stdin, stdout, stderr, false, buf, body, out, text)
 }
 
 // Those with the values of events, and after each line what is open: the active stream and the open requests.
-pub fn run_telling(buf: &mut [u8], body: &mut [u8], out: &mut [u8], text: &mut [u8]) {
-    go_on(true, buf, body, out, text)
+pub fn run_telling(
+    stdin: Stdin,
+    stdout: Stdout,
+    stderr: Stderr,
+    buf: &mut [u8],
+    body: &mut [u8],
+    out: &mut [u8],
+    text: &mut [u8],
+) {
+    go_on(stdin, stdout, stderr, true, buf, body, out, text)
 }

@@ -6,10 +6,11 @@ use crate::{open, results, waiting};
 use script::{Line, Why};
 use script_run::Came;
 use session::{ClientSession, ClientSessionConfig, Outcome};
+use std::io::{Stderr, Stdin, Stdout};
 
 // Lines passed; bytes at hand of the line that has begun, and whether it is passed over as too long; whether more input may come; how much of the
-// output is lent; whether events are told with their values, and after each line what is open; the text that waits.
-#[derive(Drop)]
+// output is lent; whether events are told with their values, and after each line what is open; where lines come from; the text that waits.
+#[derive(Clone, Copy)]
 pub struct Standing {
     pub line: u64,
     pub held: usize,
@@ -17,22 +18,25 @@ pub struct Standing {
     pub going: bool,
     pub space: u32,
     pub telling: bool,
+    pub stdin: Stdin,
     pub waiting: Waiting,
 }
 
-#[derive(Drop)]
+#[derive(Clone, Copy)]
 pub struct Running {
     pub standing: Standing,
     pub session: ClientSession,
 }
 
 // A default session, and all of the output lent.
-pub(crate) fn start(telling: bool) -> Running {
+pub(crate) fn start(stdin: Stdin, stdout: Stdout, stderr: Stderr, telling: bool) -> Running {
     let called = ClientSession::new(ClientSessionConfig::new());
     let session = called.session;
     let waiting = Waiting {
         used: 0,
         failed: false,
+        stdout,
+        stderr,
     };
     let standing = Standing {
         line: 0,
@@ -41,6 +45,7 @@ pub(crate) fn start(telling: bool) -> Running {
         going: true,
         space: u32::MAX,
         telling,
+        stdin,
         waiting,
     };
     Running { standing, session }
@@ -63,7 +68,7 @@ fn unread(st: Standing, why: Why, text: &[u8]) -> Standing {
     let waiting = st.waiting;
     let written = waiting::flush(text, waiting);
     after.waiting = written;
-    results::complain(st.line, why);
+    results::complain(waiting.stderr, st.line, why);
     after
 }
 
@@ -183,7 +188,7 @@ pub(crate) fn ended(
 }
 
 // Where what is left begins.
-#[derive(Drop)]
+#[derive(Clone, Copy)]
 pub struct Taken {
     pub from: usize,
     pub running: Running,

@@ -1,22 +1,20 @@
 // Result lines, and messages on standard error.
-use crate::values;
 use crate::waiting::{Waiting, digits, grown, put, room};
-use libc::STDERR_FILENO;
+use crate::{values, waiting};
 use octets::Wrote;
 use script::Why;
 use session::{
     ClientSessionError, ClientSessionEvent, ClientSessionResult, ClientState, Outcome, Packet,
 };
+use std::io::Stderr;
 
 // Says what is wrong with the line of that number.
-pub(crate) fn complain(line: u64, why: Why) {
+pub(crate) fn complain(to: Stderr, line: u64, why: Why) {
     let mut text = [0u8; 128];
     let wrote = script_results::write_complaint(&mut text, 0, line, why);
     match wrote {
         Wrote::NoSpace => {}
-        Wrote::Done(n) => {
-            io::write_all(STDERR_FILENO, octets::part(&text, 0, n));
-        }
+        Wrote::Done(n) => waiting::complain(to, octets::part(&text, 0, n)),
     }
 }
 

@@ -1,31 +1,42 @@
 // Text for standard output, which waits in a lent text until that is full or the lines at hand are done.
 ghost use Rattle.std.specs.Prelude.{◌<◌, ◌≤◌};
 
-use libc::{STDERR_FILENO, STDOUT_FILENO};
 use octets::Wrote;
+use std::io::{Print, Stderr, Stdout};
 
-// How many bytes of the text wait, and whether a write failed.
-#[derive(Drop)]
+// How many bytes of the text wait, and whether a write failed; where the text goes, and where messages go.
+#[derive(Clone, Copy)]
 pub struct Waiting {
     pub used: usize,
     pub failed: bool,
+    pub stdout: Stdout,
+    pub stderr: Stderr,
 }
 
 // Writes what waits. After a write that failed nothing more is written.
 pub(crate) fn flush(text: &[u8], waiting: Waiting) -> Waiting {
     let used = waiting.used;
     if waiting.failed {
-        return emptied(true);
+        return emptied(waiting, true);
     }
-    if io::write_all(STDOUT_FILENO, octets::part(text, 0, used)) {
-        return emptied(false);
+    let to = waiting.stdout;
+    if to.write_all(octets::part(text, 0, used)).is_ok() {
+        return emptied(waiting, false);
     }
-    io::write_all(STDERR_FILENO, b"card: standard output can't be written\n");
-    emptied(true)
+    complain(waiting.stderr, b"card: standard output can't be written\n");
+    emptied(waiting, true)
 }
 
-fn emptied(failed: bool) -> Waiting {
-    Waiting { used: 0, failed }
+fn emptied(waiting: Waiting, failed: bool) -> Waiting {
+    let mut after = waiting;
+    after.used = 0;
+    after.failed = failed;
+    after
+}
+
+// A message on standard error; one that can't be written is passed over.
+pub(crate) fn complain(to: Stderr, message: &[u8]) {
+    let _ = to.write_all(message);
 }
 
 // Room for 4,096 bytes, more than any piece that is written has.

@@ -2,7 +2,7 @@
 -- document 01's case.
 -- Assumes nothing.
 use mathlib.Core.Path.{◌≡◌, refl, ap}
-use mathlib.Core.Bool.{true, false}
+use mathlib.Core.Bool.{false}
 use mathlib.Core.List.{List, [], ◌∷◌, ◌++◌, append_assoc, append-nil}
 use Prim.Native.Nat.{ℕ, zero, suc, ◌+◌, ◌-◌, ◌*◌, ◌/◌, ◌%◌, ◌^◌, ◌<◌, ◌≤◌}
 use native.Mathlib.Nat.{pow-suc}
@@ -12,7 +12,7 @@ use lib.Dec.{ltb, lit≤}
 use lib.ListN.{length, length-append}
 use Rattle.io.specs.Digits.{last_digits, hex_digit_ascii}
 use Rattle.octets.specs.Compare.{ascii}
-use Rattle.messages.specs.declared.stream_metadata.OptionU32.TheVariants.{None, Some}
+use Rattle.messages.specs.declared.stream_metadata.OptionU32.TheVariants.{Some}
 use Rattle.requests.proofs.BoolLaws.{by_cases}
 use Rattle.session.specs.declared.state.ClientState.TheVariants.{Disconnected}
 use Rattle.session.specs.declared.result.ClientSessionResult.TheVariants.{OutboundResponse}

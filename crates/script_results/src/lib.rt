@@ -1,4 +1,6 @@
 // The lines that tell results, and what is said of lines that can't be read.
+#![tactic(auto)]
+
 mod decimal;
 mod hex;
 mod numbers_of;

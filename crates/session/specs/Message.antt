@@ -8,7 +8,7 @@ use Rattle.amf0.specs.Lookup.{properties_at}
 use Rattle.amf0.specs.Places.{text_of_property}
 use Rattle.messages.specs.Notice.{code_at}
 use Rattle.messages.specs.Metadata.{metadata_at}
-use Rattle.messages.specs.Numbers.{type_number, set_chunk_size, user_control, window_size, audio, video, amf0Command}
+use Rattle.messages.specs.Numbers.{type_number, set_chunk_size, user_control, window_size, audio, video, amf0_command}
 use Rattle.messages.specs.declared.ids.RtmpTimestamp.{RtmpTimestamp}
 use Rattle.messages.specs.declared.ids.StreamNumber.{StreamNumber}
 use Rattle.messages.specs.declared.on_status.OnStatus.{OnStatus}
@@ -103,8 +103,8 @@ module _ (s : ClientSession) (clock : RtmpTimestamp) (b : List ℕ) where
   grant_sends PlayRequest key x =
       two
       (plain (type_number user_control) clock (control_body (SetBufferLength x s.config.playback_buffer_length_ms)))
-      (on_stream (type_number amf0Command) clock x (play_body (text_of key)))
-  grant_sends (PublishRequest t) key x = one (sends (on_stream (type_number amf0Command) clock x (publish_body (text_of key) t)))
+      (on_stream (type_number amf0_command) clock x (play_body (text_of key)))
+  grant_sends (PublishRequest t) key x = one (sends (on_stream (type_number amf0_command) clock x (publish_body (text_of key) t)))
 
   abbrev pub granted : ℕ → TransactionPurpose → Text → Argument → Plan
   granted n p key (argument.Number x) =

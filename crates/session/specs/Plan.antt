@@ -1,7 +1,7 @@
 -- What each of the caller's calls comes to, before 13 and 12 are looked at: the refusals in document 01's order, then results and a session.
 -- Assumes nothing.
 use Rattle.std.specs.Prelude.{ℕ, ◌+◌, ◌%◌, ◌^◌, Bool, true, false, cond, not, List, [], ◌∷◌, length, nat_le, nat_lt}
-use Rattle.messages.specs.Numbers.{type_number, acknowledgement, user_control, amf0Command}
+use Rattle.messages.specs.Numbers.{type_number, acknowledgement, user_control, amf0_command}
 use Rattle.messages.specs.declared.ids.RtmpTimestamp.{RtmpTimestamp}
 use Rattle.messages.specs.declared.ids.StreamNumber.{StreamNumber}
 use Rattle.messages.specs.declared.rtmp_message.UserControlEvent.TheVariants.{PingRequest}
@@ -109,12 +109,12 @@ module _ (s : ClientSession) (clock : RtmpTimestamp) where
   unfoldable pub request : Check → OutstandingTransaction → List ℕ → List ℕ → Plan
   request own kind t body =
       in_order (own ∷ if_long t ∷ if_spent s ∷ if_eight_open s ∷ [])
-      (go (one (sends (plain (type_number amf0Command) clock body))) (with_requests s (asked s.requests kind t)))
+      (go (one (sends (plain (type_number amf0_command) clock body))) (with_requests s (asked s.requests kind t)))
 
   -- a stop at its own two stages
   abbrev pub stopped : ActiveStream → Plan
   stopped active.None = go nothing (with_progress s Connected active.None)
-  stopped (active.Some x) = go (one (sends (on_stream (type_number amf0Command) clock x (delete_stream_body x.0)))) (with_progress s Connected active.None)
+  stopped (active.Some x) = go (one (sends (on_stream (type_number amf0_command) clock x (delete_stream_body x.0)))) (with_progress s Connected active.None)
 
   unfoldable pub stop : (ClientState → Bool) → Plan
   stop own = cond (own s.progress.state) (stopped s.progress.active) (go nothing s)

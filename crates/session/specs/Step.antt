@@ -3,7 +3,7 @@
 use Rattle.std.specs.Prelude.{ℕ, false, cond, not, List, [], ◌∷◌, length, nat_lt}
 use Rattle.amf0.specs.Places.{stretch}
 use Rattle.messages.specs.Incoming.{decode}
-use Rattle.messages.specs.Numbers.{type_number, audio, video, amf0Data}
+use Rattle.messages.specs.Numbers.{type_number, audio, video, amf0_data}
 use Rattle.messages.specs.Places.{placed}
 use Rattle.messages.specs.declared.ids.RtmpTimestamp.{RtmpTimestamp}
 use Rattle.bodies.specs.MetadataBody.{metadata_body}
@@ -37,7 +37,7 @@ plan s clock (picture b t d) =
 plan s clock (sound b t d) =
     published s clock (if_large b) (λ x. record { type_id = type_number audio; time = t; stream = x; droppable = d; uncompressed = false; body = b })
 plan s clock (metadata m text) =
-    published s clock (if_long (stretch text m.encoder)) (λ x. on_stream (type_number amf0Data) clock x (metadata_body text m))
+    published s clock (if_long (stretch text m.encoder)) (λ x. on_stream (type_number amf0_data) clock x (metadata_body text m))
 plan s clock (bytes n) = count s clock n
 plan s clock (message k t x b) = in_order (if_large b ∷ []) (on_message s clock b k t x (placed b (decode k b)))
 
