@@ -21,5 +21,5 @@ pub returns : goal.returns
 unfolding requests_sound
 returns c =
     let n = c.args.self.next in
-    let p : 0 < n = omega (arith, c.if-next-eq0.false) in
-    rw (lt-ltb 0 n p, le-leb n 4294967296 (omega arith)) c.places_sound.ensures
+    let positive : 0 < n = omega (arith, c.if-next-eq0.false) in
+    rw (lt-ltb 0 n positive, le-leb n 4294967296 (omega arith)) c.places_sound.ensures
