@@ -1,16 +1,24 @@
 -- Numbers and their bytes: `be` and `digits` undo each other, both split at any byte, and what `uint` reads. Each law is over the width.
 -- Assumes nothing.
 use Prim.Native.Nat.{ℕ, zero, suc, ◌+◌, ◌-◌, ◌*◌, ◌/◌, ◌%◌, ◌^◌, ◌<◌, ◌≤◌}
-use native.Mathlib.Nat.{add-zero, add-suc, div-one, mod-eq_of_lt, pow-suc, pow-succ', div-div-eq-div-mul, one-le-pow}
+use native.Mathlib.Nat.{zero-add, suc-add, add-zero, add-suc, div-one, mod-eq_of_lt, pow-suc, pow-succ', div-div-eq-div-mul, one-le-pow}
 use native.Mathlib.Numerals.{one-add}
 use native.Mathlib.Omega.{arith}
 use mathlib.Core.Path.{◌≡◌, refl, sym, ap, ◌∙◌}
 use mathlib.Core.List.{List, [], ◌∷◌, ◌++◌, append_assoc, append-nil}
 use lib.Arith.{digits_lt, digits_div, digits_mod, mod-mul}
-use lib.ListN.{length, take, drop, length-append, length-drop}
-use lib.Seq.{take-add, drop-drop, length-take-le}
-use Rattle.octets.specs.Parse.{bad, got}
-use Rattle.octets.specs.BigEndian.{Bytes, more, be, uint, digits}
+use lib.ListN.{get_or, length, take, drop, length-append}
+use lib.Dec.{leb}
+use lib.Seq.{take_all, take-suc, length-take-le}
+use Rattle.std.specs.Int.{w64, byte_at, byte_worth, bytes_high_first, sum_through, to_be_bytes}
+use Rattle.std.specs.Prelude.{Option, Some, None, MatchOption}
+use Rattle.std.specs.Borrow.{Bor}
+use Rattle.std.specs.Option.{option_copied}
+use Rattle.std.specs.Array.{IsFirstChunk}
+use Rattle.octets.specs.Parse.{bad, got, field}
+use Rattle.octets.specs.BigEndian.{Bytes, more, be, uint, digits, read_as}
+use borrow.Author.Tests.{le-leb, lt-leb, leb-true}
+use mathlib.Core.Bool.{Bool, true, false, cond}
 use Rattle.octets.proofs.ParseLaws.{field-append, field_at, field-short}
 
 pub more-append : (x : ℕ) (a b : List ℕ) → more x (a ++ b) ≡ more (more x a) b
@@ -48,10 +56,33 @@ digits-split m (suc n) x =
     let q : x / 256 ^ suc n ≡ x / 256 / 256 ^ n = rw pow-succ' (sym (div-div-eq-div-mul x 256 (256 ^ n))) in
     rw (add-suc, digits-split m n (x / 256), append_assoc, q, d, r)
 
--- a number of one byte
-pub digits-one : (x : ℕ) → x < 256 → digits 1 x ≡ x ∷ []
+-- bytes above the n that are asked for make no difference
+digits-low : (n x : ℕ) → digits n (x % 256 ^ n) ≡ digits n x
 unfolding digits
-digits-one x h = rw (mod-eq_of_lt h)
+digits-low n x = sym (ap (λ (k : ℕ). digits k x) (sym (zero-add n)) ∙ digits-split 0 n x)
+
+-- the library's bytes of a number are its digits
+byte_is : (n x : ℕ) → byte_at n x ≡ x / 256 ^ n % 256
+byte_is zero x = rw div-one
+byte_is (suc n) x = refl
+
+pub high_first : (n x : ℕ) → bytes_high_first n x ≡ digits n x
+unfolding digits
+high_first zero x = refl
+high_first (suc n) x =
+    rw (byte_is n x, high_first n x, ← digits-low n x) (sym (ap (λ (k : ℕ). digits k x) (sym (one-add n)) ∙ digits-split 1 n x))
+
+-- and the last n of more bytes are those of n
+last_bytes : (m n x : ℕ) → drop m (bytes_high_first (m + n) x) ≡ digits n x
+last_bytes zero n x = rw zero-add (high_first n x)
+last_bytes (suc m) n x = rw suc-add (last_bytes m n x)
+
+-- of eight bytes, the part from the (8 - n)th on
+pub low_bytes : (n x : ℕ) → n ≤ 8 → take (8 - (8 - n)) (drop (8 - n) (to_be_bytes w64 x)) ≡ digits n x
+low_bytes n x h =
+    let e : 8 - n + n ≡ 8 = omega arith in
+    let l : drop (8 - n) (bytes_high_first 8 x) ≡ digits n x = rw e at (last_bytes (8 - n) n x) in
+    rw l (take_all (8 - (8 - n)) (digits n x) (omega (arith, length_digits n x)))
 
 pub be-lt : (s : List ℕ) → Bytes s → be s < 256 ^ length s
 be-lt [] h = omega arith
@@ -93,9 +124,49 @@ module _ (n : ℕ) (s : List ℕ) (at : ℕ) where
   unfolding uint
   uint-short h = rw (field-short n s at h)
 
--- the number at a place is made of the two at its parts
-pub be-split : (m n : ℕ) (s : List ℕ) (at : ℕ) → at + (m + n) ≤ length s
-    → be (take (m + n) (drop at s)) ≡ be (take m (drop at s)) * 256 ^ n + be (take n (drop (at + m) s))
-be-split m n s at h =
-    let l : length (take n (drop (at + m) s)) ≡ n = length-take-le n (drop (at + m) s) (omega (arith, length-drop (at + m) s)) in
-    rw (take-add, drop-drop, be-append, l)
+-- what `uint` reads of n bytes that were found at the front, and that it reads none where they aren't there
+module _ (n : ℕ) (s : List ℕ) {B : Type 0} (short : B) (is : ℕ → B) where
+  pub found : {b r : List ℕ} {x : ℕ} → field n s ≡ got b r → x ≡ be b → is x ≡ read_as short is (uint n s)
+  unfolding uint
+  found e q = rw (e, q)
+
+  pub absent : field n s ≡ bad → short ≡ read_as short is (uint n s)
+  unfolding uint
+  absent e = rw e
+
+-- they are n
+pub found_length : (n : ℕ) (s : List ℕ) {b r : List ℕ} → field n s ≡ got b r → length b ≡ n
+unfolding field
+found_length n s {b} {r} e = go (leb n (length s)) refl e
+  where
+    go : (t : Bool) → leb n (length s) ≡ t → cond t (got (take n s) (drop n s)) bad ≡ got b r → length b ≡ n
+    go true h f = let g : take n s ≡ b = cc in rw (← g) (length-take-le n s (leb-true n (length s) h))
+    go false h f = cc
+
+-- the library's array of the first n bytes of a slice
+pub first_field : (n : ℕ) (s : List ℕ) (r : Option (Bor (List ℕ))) → MatchOption r (length s < n) (λ y. IsFirstChunk s y.now n)
+    → MatchOption (option_copied r) (field n s ≡ bad) (λ b. field n s ≡ got b (drop n s))
+unfolding field
+first_field n s None h = rw (lt-leb n (length s) h)
+first_field n s (Some y) h = rw (le-leb n (length s) h.enough, h.same)
+
+-- the library's number of k + 1 bytes: what the first j + 1 of them are worth
+worth_is : (i x : ℕ) → byte_worth i x ≡ x * 256 ^ i
+worth_is zero x = omega arith
+worth_is (suc i) x = refl
+
+worth : (k : ℕ) (b : List ℕ) → length b ≡ suc k → (j : ℕ) → j ≤ k
+    → sum_through (λ i. byte_worth (k - i) (get_or b i 0)) j ≡ be (take (suc j) b) * 256 ^ (k - j)
+worth k b e zero h =
+    let t : take 1 b ≡ get_or b 0 0 ∷ [] = take-suc b 0 0 (omega arith) in
+    rw (t, worth_is) (omega arith)
+worth k b e (suc j) h =
+    let t : take (suc (suc j)) b ≡ take (suc j) b ++ (get_or b (suc j) 0 ∷ []) = take-suc b (suc j) 0 (omega arith) in
+    let m : k - j ≡ suc (k - suc j) = omega arith in
+    rw (t, be-append, worth_is, worth k b e j (omega arith), m, pow-suc) (omega arith)
+
+pub be_is : (k : ℕ) (b : List ℕ) → length b ≡ suc k → sum_through (λ i. byte_worth (k - i) (get_or b i 0)) k ≡ be b
+be_is k b e =
+    let t : take (suc k) b ≡ b = take_all (suc k) b (omega arith) in
+    let z : k - k ≡ 0 = omega arith in
+    worth k b e k (omega arith) ∙ rw (t, z) (omega arith)

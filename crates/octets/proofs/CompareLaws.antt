@@ -1,10 +1,12 @@
 -- `same` is the equality of lists, both ways.
 -- Assumes nothing.
 use Prim.Native.Nat.{ℕ}
-use mathlib.Core.Path.{◌≡◌, refl}
+use mathlib.Core.Path.{◌≡◌, refl, sym}
 use mathlib.Core.Bool.{Bool, true, false, cond}
 use mathlib.Core.List.{List, [], ◌∷◌}
 use lib.Dec.{eqb}
+use lib.Pointwise.{pointwise}
+use Rattle.std.specs.Cmp.Lexicographic.{same_text, other_text}
 use borrow.Author.Tests.{eq-eqb, eqb-true}
 use native.Mathlib.Omega.{arith}
 use Rattle.octets.specs.Compare.{same}
@@ -37,3 +39,11 @@ ne_same a b h = go (same a b) refl
 
 pub same-ne : (a b : List ℕ) → same a b ≡ false → a ≡ b → ⊥
 same-ne a b h e = let t : same a b ≡ true = eq-same e in let z : ◌≡◌ {A = ℕ} 0 1 = cc in omega arith
+
+-- the library's equality of slices
+pub pointwise_same : (a b : List ℕ) → pointwise eqb a b ≡ same a b
+pointwise_same a b = go (pointwise eqb a b) refl
+  where
+    go : (t : Bool) → t ≡ pointwise eqb a b → t ≡ same a b
+    go true e = sym (eq-same (same_text a b e))
+    go false e = sym (ne_same a b (other_text a b e))

@@ -1,18 +1,15 @@
--- Laws of `specs/Utf8.antt`: the steps of the code; that the test is the ABNF, `means` and `meant`; and texts that are UTF-8 for sure.
+-- Laws of `specs/Utf8.antt`: what byte begins which row; that the test is the ABNF, `means` and `meant`; and texts that are UTF-8 for sure.
 -- Assumes nothing.
-use Prim.Native.Nat.{ℕ, zero, suc, ◌+◌, ◌-◌, ◌≤◌, ◌<◌}
-use mathlib.Core.Bool.{Bool, true, false, ◌&&◌, ◌||◌, and-false, or-false, or-true, false≢true}
+use Prim.Native.Nat.{ℕ, ◌≤◌}
+use mathlib.Core.Bool.{Bool, true, false, ◌&&◌, ◌||◌, or-false, or-true, false≢true}
 use mathlib.Core.List.{List, [], ◌∷◌, ◌++◌, append_assoc, head-eq_of_cons-eq, tail-eq_of_cons-eq}
 use mathlib.Core.List.{Memᴰ}
 use mathlib.Core.Logic.{◌⊎◌, inl, inr, ⊎_elim}
 use mathlib.Core.Path.{◌≡◌, refl, ◌∙◌}
-use native.Mathlib.Numerals.{add-one, sub-one}
 use native.Mathlib.Omega.{arith}
-use borrow.Author.Tests.{le-leb, lt-leb, ne_eqb, leb-true, leb-false, ltb-true}
-use lib.Dec.{leb, ltb, eqb}
-use lib.ListN.{length, drop, get_or, drop_of_length-le}
-use lib.Seq.{drop-cons}
-use Rattle.octets.specs.Utf8.{Range, from_to, rows, within, in_row, Octets, none, char, any_row, octets, utf8, due}
+use borrow.Author.Tests.{le-leb, lt-leb, leb-true, leb-false, ltb-true}
+use lib.Dec.{leb, ltb}
+use Rattle.octets.specs.Utf8.{Range, from_to, rows, within, in_row, Octets, none, char, any_row, octets, utf8}
 
 -- The first byte of a character. Where the tests of all rows come out at b as at a, every byte between them begins what a begins.
 abbrev tests : List (List Range) → ℕ → List Bool
@@ -45,64 +42,7 @@ module _ (a b x : ℕ) (l : a ≤ x) (h : x ≤ b) where
   unfolding octets
   led xs v e g = same rows (octets xs) e ∙ g
 
--- no byte lies from 1 to 0
-pub never : (xs : List ℕ) → false ≡ octets xs (due 1 1 0)
-unfolding octets
-never [] = refl
-never (zero ∷ xs) = refl
-never (suc x ∷ xs) = rw (lt-leb (suc x) 0 (omega arith), and-false)
-
--- A turn of the code's loop: the byte at i is the next, and lies below, above or in the range that is due, if one is.
-pub step : (s : List ℕ) (i : ℕ) (row : List Range) → i < length s
-    → octets (drop i s) row ≡ octets (get_or s i 0 ∷ drop (i + 1) s) row
-step s i row h = rw (add-one, drop-cons s i 0)
-
--- a byte below 80 is a character
-below : (s : List ℕ) (i j : ℕ) → i < length s → j ≡ i + 1 → get_or s i 0 ≤ 0x7f → octets (drop i s) [] ≡ octets (drop j s) []
-unfolding any_row
-below s i j h e l = rw e (step s i [] h ∙ led 0x00 0x7f _ (omega arith) (omega arith) (drop (i + 1) s) _ refl (or-false _))
-
--- eight of them
-pub below-8 : (s : List ℕ) (i : ℕ) → i + 8 ≤ length s
-    → get_or s i 0 ≤ 0x7f → get_or s (i + 1) 0 ≤ 0x7f → get_or s (i + 2) 0 ≤ 0x7f → get_or s (i + 3) 0 ≤ 0x7f
-    → get_or s (i + 4) 0 ≤ 0x7f → get_or s (i + 5) 0 ≤ 0x7f → get_or s (i + 6) 0 ≤ 0x7f → get_or s (i + 7) 0 ≤ 0x7f
-    → octets (drop i s) [] ≡ octets (drop (i + 8) s) []
-below-8 s i h a b c d e f g k =
-    below s i (i + 1) (omega arith) (omega arith) a
-    ∙ below s (i + 1) (i + 2) (omega arith) (omega arith) b
-    ∙ below s (i + 2) (i + 3) (omega arith) (omega arith) c
-    ∙ below s (i + 3) (i + 4) (omega arith) (omega arith) d
-    ∙ below s (i + 4) (i + 5) (omega arith) (omega arith) e
-    ∙ below s (i + 5) (i + 6) (omega arith) (omega arith) f
-    ∙ below s (i + 6) (i + 7) (omega arith) (omega arith) g
-    ∙ below s (i + 7) (i + 8) (omega arith) (omega arith) k
-
-module _ (x : ℕ) (xs : List ℕ) (lo hi : ℕ) where
-  pub low : (n : ℕ) → (n ≡ 0 → ⊥) → x < lo → octets (x ∷ xs) (due n lo hi) ≡ false
-  unfolding octets
-  low zero e h = absurd (e refl)
-  low (suc n) e h = rw (lt-leb lo x h)
-
-  pub high : (n : ℕ) → (n ≡ 0 → ⊥) → hi < x → octets (x ∷ xs) (due n lo hi) ≡ false
-  unfolding octets
-  high zero e h = absurd (e refl)
-  high (suc n) e h = rw (lt-leb x hi h, and-false)
-
-  pub on : (n : ℕ) → (n ≡ 0 → ⊥) → lo ≤ x → x ≤ hi → octets (x ∷ xs) (due n lo hi) ≡ octets xs (due (n - 1) 0x80 0xbf)
-  unfolding octets
-  on zero e l h = absurd (e refl)
-  on (suc n) e l h = rw (le-leb lo x l, le-leb x hi h, sub-one)
-
-  pub fresh : (n : ℕ) → n ≡ 0 → octets (x ∷ xs) (due n lo hi) ≡ octets (x ∷ xs) []
-  fresh n e = rw e
-
--- at the end nothing may be due
-pub ended : (s : List ℕ) (i : ℕ) → length s ≤ i → (n lo hi : ℕ) → octets (drop i s) (due n lo hi) ≡ eqb n 0
-unfolding octets
-ended s i h zero lo hi = rw (drop_of_length-le s h)
-ended s i h (suc n) lo hi = rw (drop_of_length-le s h, ne_eqb (suc n) 0 (λ e. omega arith))
-
-both : (a b : Bool) → (a && b) ≡ true → (a ≡ true) × (b ≡ true)
+pub both : (a b : Bool) → (a && b) ≡ true → (a ≡ true) × (b ≡ true)
 both true b e = (refl, e)
 both false b e = absurd (false≢true e)
 

@@ -1,6 +1,6 @@
 -- UTF-8: the ABNF of RFC 3629 section 4, row by row.
 -- Assumes nothing.
-use Rattle.std.specs.Prelude.{ℕ, zero, suc, Bool, true, false, ◌&&◌, ◌||◌, ◌≡◌, leb}
+use Rattle.std.specs.Prelude.{ℕ, Bool, true, false, ◌&&◌, ◌||◌, ◌≡◌, leb}
 use mathlib.Core.List.{List, [], ◌∷◌, ◌++◌, Memᴰ}
 
 -- %xLO-HI
@@ -56,8 +56,3 @@ octets (x ∷ xs) (r ∷ row) = within r x && octets xs row
 
 unfoldable pub utf8 : List ℕ → Bool
 utf8 s = octets s []
-
--- What the code keeps of a character that has begun: n ranges are due, the first from lo to hi and the others tails.
-abbrev pub due : ℕ → ℕ → ℕ → List Range
-due zero lo hi = []
-due (suc n) lo hi = from_to lo hi ∷ due n 0x80 0xbf

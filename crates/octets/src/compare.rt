@@ -6,29 +6,16 @@ ghost use Rattle.octets.specs.Compare.{same as same_of, part as part_of};
 pub fn part(s: &[u8], start: usize, len: usize) -> &[u8]
     ensures { result.now ≡ part_of s.now start len }
 {
-    if s.len() <= start {
-        return &s[..0];
-    }
-    if s.len() - start < len {
-        return &s[start..];
-    }
-    &s[start..start + len]
+    let Some(rest) = s.get(start..) else {
+        return &[];
+    };
+    rest.get(..len).unwrap_or(rest)
 }
 
 pub fn same(a: &[u8], b: &[u8]) -> bool
     ensures { result ≡ same_of a.now b.now }
 {
-    if a.len() != b.len() {
-        return false;
-    }
-    let mut i = 0;
-    while i < a.len() {
-        if a[i] != b[i] {
-            return false;
-        }
-        i += 1;
-    }
-    true
+    a == b
 }
 
 // Whether that part of s is the name.

@@ -1,81 +1,111 @@
-// Bytes put into a lent output. A `put_` function writes at a place and answers the place after it. It requires the space, because
-// only writers whose caller has tested the space of a whole body call it. A `write_` function writes a whole body from byte 0 and refuses
+// Bytes put into a lent output. A `Writer` has the output and the place where it goes on. Its `put_` methods require the space, because
+// only writers whose caller has tested the space of a whole body call them. A `write_` function writes a whole body from byte 0 and refuses
 // one that doesn't fit.
 ghost use Rattle.std.specs.Prelude.{◌≡◌, ◌∷◌, [], ◌+◌, ◌<◌, ◌≤◌, ◌^◌, length};
 ghost use Rattle.octets.specs.BigEndian.{digits};
-ghost use Rattle.octets.specs.Output.{Put, Written};
+ghost use Rattle.octets.specs.Output.{Begun, Room, Put, Written};
 
-#[derive(Clone, Copy)]
-pub enum Wrote {
-    Done(usize),
-    NoSpace,
+// A lent output is shorter than the body.
+#[derive(Clone, Copy, Debug, PartialEq, Eq)]
+pub struct NoSpace;
+
+#[derive(Drop)]
+pub struct Writer<'a> {
+    out: &'a mut [u8],
+    at: usize,
 }
 
-pub fn put_u8(out: &mut [u8], at: usize, b: u8) -> usize
-    requires { at + 1 ≤ length out.old }
-    ensures put { Put out.old at (b ∷ []) out.new result }
-    ensures value { result ≡ at + 1 }
-{
-    out[at] = b;
-    at + 1
-}
-
-pub fn put_be16(out: &mut [u8], at: usize, n: u16) -> usize
-    requires { at + 2 ≤ length out.old }
-    ensures put { Put out.old at (digits 2 n) out.new result }
-    ensures value { result ≡ at + 2 }
-{
-    let m = put_u8(out, at, (n / 256) as u8);
-    put_u8(out, m, (n % 256) as u8)
-}
-
-pub fn put_be24(out: &mut [u8], at: usize, n: u32) -> usize
-    requires in_range { n < 2 ^ 24 }
-    requires room { at + 3 ≤ length out.old }
-    ensures put { Put out.old at (digits 3 n) out.new result }
-    ensures value { result ≡ at + 3 }
-{
-    let m = put_be16(out, at, (n / 256) as u16);
-    put_u8(out, m, (n % 256) as u8)
-}
-
-pub fn put_be32(out: &mut [u8], at: usize, n: u32) -> usize
-    requires { at + 4 ≤ length out.old }
-    ensures put { Put out.old at (digits 4 n) out.new result }
-    ensures value { result ≡ at + 4 }
-{
-    let m = put_be16(out, at, (n / 65536) as u16);
-    put_be16(out, m, (n % 65536) as u16)
-}
-
-pub fn put_be64(out: &mut [u8], at: usize, n: u64) -> usize
-    requires { at + 8 ≤ length out.old }
-    ensures put { Put out.old at (digits 8 n) out.new result }
-    ensures value { result ≡ at + 8 }
-{
-    let m = put_be32(out, at, (n / 4294967296) as u32);
-    put_be32(out, m, (n % 4294967296) as u32)
-}
-
-pub fn put_bytes(out: &mut [u8], at: usize, src: &[u8]) -> usize
-    requires { at + length src.now ≤ length out.old }
-    ensures put { Put out.old at src.now out.new result }
-    ensures value { result ≡ at + length src.now }
-{
-    let mut i = 0;
-    while i < src.len() {
-        out[at + i] = src[i];
-        i += 1;
+impl<'a> Writer<'a> {
+    pub fn new(out: &'a mut [u8]) -> Writer<'a>
+        ensures { Begun out.entry 0 result }
+    {
+        Writer::starting_at(out, 0)
     }
-    at + i
+
+    pub fn starting_at(out: &'a mut [u8], at: usize) -> Writer<'a>
+        ensures { Begun out.entry at result }
+    {
+        Writer { out, at }
+    }
+
+    // The place where it goes on, and so how many bytes it has put.
+    pub fn position(&self) -> usize
+        ensures { result ≡ self.now.at }
+    {
+        self.at
+    }
+
+    pub fn put_u8(&mut self, b: u8)
+        requires { Room self.old 1 }
+        ensures put { Put self.old (b ∷ []) self.new }
+        ensures value { self.new.at ≡ self.old.at + 1 }
+    {
+        self.out[self.at] = b;
+        self.at += 1;
+    }
+
+    // The lowest N bytes of n, the highest of them first.
+    fn put_be<const N: usize>(&mut self, n: u64)
+        requires in_range { N ≤ 8 }
+        requires room { Room self.old N }
+        ensures put { Put self.old (digits N n) self.new }
+        ensures value { self.new.at ≡ self.old.at + N }
+    {
+        self.put_bytes(&n.to_be_bytes()[8 - N..]);
+    }
+
+    pub fn put_be16(&mut self, n: u16)
+        requires { Room self.old 2 }
+        ensures put { Put self.old (digits 2 n) self.new }
+        ensures value { self.new.at ≡ self.old.at + 2 }
+    {
+        self.put_be::<2>(n as u64);
+    }
+
+    pub fn put_be24(&mut self, n: u32)
+        requires in_range { n < 2 ^ 24 }
+        requires room { Room self.old 3 }
+        ensures put { Put self.old (digits 3 n) self.new }
+        ensures value { self.new.at ≡ self.old.at + 3 }
+    {
+        self.put_be::<3>(n as u64);
+    }
+
+    pub fn put_be32(&mut self, n: u32)
+        requires { Room self.old 4 }
+        ensures put { Put self.old (digits 4 n) self.new }
+        ensures value { self.new.at ≡ self.old.at + 4 }
+    {
+        self.put_be::<4>(n as u64);
+    }
+
+    pub fn put_be64(&mut self, n: u64)
+        requires { Room self.old 8 }
+        ensures put { Put self.old (digits 8 n) self.new }
+        ensures value { self.new.at ≡ self.old.at + 8 }
+    {
+        self.put_be::<8>(n);
+    }
+
+    pub fn put_bytes(&mut self, src: &[u8])
+        requires { Room self.old (length src.now) }
+        ensures put { Put self.old src.now self.new }
+        ensures value { self.new.at ≡ self.old.at + length src.now }
+    {
+        let end = self.at + src.len();
+        self.out[self.at..end].copy_from_slice(src);
+        self.at = end;
+    }
 }
 
 // A whole body that is at hand.
-pub fn write_bytes(out: &mut [u8], src: &[u8]) -> Wrote
+pub fn write_bytes(out: &mut [u8], src: &[u8]) -> Result<usize, NoSpace>
     ensures { Written out.old src.now out.new result }
 {
     if out.len() < src.len() {
-        return Wrote::NoSpace;
+        return Err(NoSpace);
     }
-    Wrote::Done(put_bytes(out, 0, src))
+    let mut w = Writer::new(out);
+    w.put_bytes(src);
+    Ok(w.position())
 }

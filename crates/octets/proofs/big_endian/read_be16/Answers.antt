@@ -1,17 +1,13 @@
--- `octets::big_endian::read_be16` meets its contract: too few bytes, or the number that `two` reads.
+-- `octets::big_endian::read_be16` meets its contract: too few bytes, or the number that they are.
 -- Assumes nothing.
-use native.Mathlib.Omega.{arith}
-use mathlib.Core.Path.{ap}
-use Rattle.octets.proofs.BigEndianLaws.{uint-at, uint-short}
-use Rattle.octets.specs.declared.big_endian.Be16.TheVariants.{Is}
+use mathlib.Core.Path.{◌∙◌}
+use Rattle.octets.proofs.BigEndianLaws.{found, found_length, absent, be_is}
 use Rattle.octets.proofs.big_endian.read_be16.Goals as goal
-
-pub returns-then-left-lt2 : goal.returns-then-left-lt2
-returns-then-left-lt2 c =
-    let a = c.args in
-    rw (uint-short 2 a.s.now a.at (omega arith))
 
 pub returns : goal.returns
 returns c =
-    let a = c.args in
-    rw (uint-at 2 a.s.now a.at (omega arith)) (ap Is c.two.ensures)
+    let e = c.in_ok-bytes_at.ensures in
+    found _ _ _ _ e (c.from_be_bytes.ensures ∙ be_is 1 _ (found_length _ _ e))
+
+pub returns-in_err-bytes_at : goal.returns-in_err-bytes_at
+returns-in_err-bytes_at c = c.from_residual.ensures ∙ absent _ _ _ _ c.in_err-bytes_at.ensures

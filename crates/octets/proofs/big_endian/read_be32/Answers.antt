@@ -1,17 +1,13 @@
--- `octets::big_endian::read_be32` meets its contract: too few bytes, or the number that `four` reads.
+-- `octets::big_endian::read_be32` meets its contract: too few bytes, or the number that they are.
 -- Assumes nothing.
-use native.Mathlib.Omega.{arith}
-use mathlib.Core.Path.{ap}
-use Rattle.octets.proofs.BigEndianLaws.{uint-at, uint-short}
-use Rattle.octets.specs.declared.big_endian.Be32.TheVariants.{Is}
+use mathlib.Core.Path.{◌∙◌}
+use Rattle.octets.proofs.BigEndianLaws.{found, found_length, absent, be_is}
 use Rattle.octets.proofs.big_endian.read_be32.Goals as goal
-
-pub returns-then-left-lt4 : goal.returns-then-left-lt4
-returns-then-left-lt4 c =
-    let a = c.args in
-    rw (uint-short 4 a.s.now a.at (omega arith))
 
 pub returns : goal.returns
 returns c =
-    let a = c.args in
-    rw (uint-at 4 a.s.now a.at (omega arith)) (ap Is c.four.ensures)
+    let e = c.in_ok-bytes_at.ensures in
+    found _ _ _ _ e (c.from_be_bytes.ensures ∙ be_is 3 _ (found_length _ _ e))
+
+pub returns-in_err-bytes_at : goal.returns-in_err-bytes_at
+returns-in_err-bytes_at c = c.from_residual.ensures ∙ absent _ _ _ _ c.in_err-bytes_at.ensures

@@ -1,15 +1,13 @@
--- `octets::big_endian::read_be64` meets its contract: too few bytes, or the number that is made of two parts.
+-- `octets::big_endian::read_be64` meets its contract: too few bytes, or the number that they are.
 -- Assumes nothing.
-use native.Mathlib.Omega.{arith}
-use Rattle.octets.proofs.BigEndianLaws.{be-split, uint-at, uint-short}
+use mathlib.Core.Path.{◌∙◌}
+use Rattle.octets.proofs.BigEndianLaws.{found, found_length, absent, be_is}
 use Rattle.octets.proofs.big_endian.read_be64.Goals as goal
-
-pub returns-then-left-lt8 : goal.returns-then-left-lt8
-returns-then-left-lt8 c =
-    let a = c.args in
-    rw (uint-short 8 a.s.now a.at (omega arith))
 
 pub returns : goal.returns
 returns c =
-    let a = c.args in
-    rw (uint-at 8 a.s.now a.at (omega arith), be-split 4 4 a.s.now a.at (omega arith), c.four.ensures, c.four-2.ensures)
+    let e = c.in_ok-bytes_at.ensures in
+    found _ _ _ _ e (c.from_be_bytes.ensures ∙ be_is 7 _ (found_length _ _ e))
+
+pub returns-in_err-bytes_at : goal.returns-in_err-bytes_at
+returns-in_err-bytes_at c = c.from_residual.ensures ∙ absent _ _ _ _ c.in_err-bytes_at.ensures

@@ -1,5 +1,6 @@
 -- `octets::output::write_bytes` meets its contract: refused where it does not fit, else put from byte 0.
 -- Assumes nothing.
+use borrow.Author.Rules.{rules}
 use native.Mathlib.Omega.{arith}
 use Rattle.octets.proofs.OutputLaws.{fitted, short}
 use Rattle.octets.proofs.output.write_bytes.Goals as goal
@@ -8,4 +9,4 @@ pub returns-then-out-src : goal.returns-then-out-src
 returns-then-out-src c = short (omega arith)
 
 pub returns : goal.returns
-returns c = fitted c.put_bytes.ensures.put (omega arith)
+returns c = fitted c.put_bytes.new.self c.new-w.ensures c.position.ensures c.put_bytes.ensures.put (search rules) (omega arith)
