@@ -9,13 +9,15 @@ use lib.Dec.{leb, eqb}
 use lib.ListN.{length, take, drop, length-drop, drop_of_length-le}
 use lib.Seq.{drop-drop, drop-length}
 use borrow.Author.Tests.{leb-true, leb-false}
+use Rattle.std.specs.Prelude.{Result, Ok, Err}
 use Rattle.octets.specs.Parse.{Parse, bad, got, and_then, field, place_of}
 use Rattle.octets.specs.BigEndian.{be, uint}
 use Rattle.octets.specs.Utf8.{utf8}
 use Rattle.amf0.specs.Value.{Value}
-use Rattle.amf0.specs.Decode.{text_of, Property, Name, last, named, name_of, property_after, properties, values, content, marker_of, value}
+use Rattle.amf0.specs.Decode.{text_of, Property, Name, last, named, name_of, property_after, properties, values, content, marker_of, coded, marker, value}
 use Rattle.amf0.specs.declared.marker.Marker.{Marker}
-use Rattle.amf0.specs.declared.marker.Marker.TheVariants.{Number, Boolean, Text, Object, Null, Undefined, EcmaArray, StrictArray, Other}
+use Rattle.amf0.specs.declared.marker.Marker.TheVariants.{Number, Boolean, Text, Object, Null, Undefined, EcmaArray, StrictArray}
+use Rattle.amf0.specs.declared.read.Malformed.{Malformed}
 
 -- two constructors that are said to be equal
 pub clash : {A : Type 0} → ◌≡◌ {A = ℕ} 0 1 → A
@@ -129,6 +131,21 @@ pub cuts-uint : (n : ℕ) (s : List ℕ) → Cuts n s (uint n s)
 unfolding uint
 cuts-uint n s = cuts_less n (omega arith) (cuts_then n (cuts-field n s) (λ b r. cuts-got _ r))
 
+-- a code takes no further byte, so a marker is a byte
+pub coded-left : {A : Type 0} (o : Result A Malformed) (x : List ℕ) {k : A} {r : List ℕ} → coded o x ≡ got k r → r ≡ x
+coded-left (Ok m) x e = cc
+coded-left (Err d) x e = clash (cc)
+
+pub marker-got : (s : List ℕ) {k : Marker} {r : List ℕ} → marker s ≡ got k r → (1 ≤ length s) × (r ≡ drop 1 s)
+unfolding marker
+marker-got s e =
+    let i = steps (uint 1 s) _ e in
+    let f = (uint-got 1 s i.one).1 in
+    (f.fits, coded-left (marker_of i.what) i.rest i.two ∙ f.rest)
+
+pub cuts-marker : (s : List ℕ) → Cuts 1 s (marker s)
+cuts-marker s = record { cut = λ e. let f = marker-got s e in record { by = 1; least = omega arith; most = f.0; is = f.1 } }
+
 pub cuts-text : (s : List ℕ) → Cuts 2 s (text_of s)
 unfolding text_of
 cuts-text s =
@@ -169,12 +186,11 @@ module _ (f : List ℕ → Parse Value) (hf : (s : List ℕ) → Cuts 1 s (f s))
       cuts_then 0 (cuts_any (cuts-uint 4 s)) (λ n r. cuts_then 0 (cuts_any (cuts-properties _ r)) (λ ps r2. cuts-got _ r2))
   cuts-content StrictArray s =
       cuts_then 0 (cuts_any (cuts-uint 4 s)) (λ n r. cuts_then 0 (cuts-values n r) (λ vs r2. cuts-got _ r2))
-  cuts-content Other s = cuts-bad 0 s
 
 pub cuts-value : (d : ℕ) (s : List ℕ) → Cuts 1 s (value d s)
 unfolding value
 cuts-value zero s = cuts-bad 1 s
-cuts-value (suc d) s = cuts_then 1 (cuts-uint 1 s) (λ m r. cuts-content (value d) (cuts-value d) (marker_of m) r)
+cuts-value (suc d) s = cuts_then 1 (cuts-marker s) (cuts-content (value d) (cuts-value d))
 
 pub past-length : {m : ℕ} {s r : List ℕ} → Past m s r → length r + m ≤ length s
 past-length {s = s} p = omega (arith, ap length p.is, length-drop p.by s)

@@ -1,34 +1,29 @@
 -- What `properties_at`, `find` and `text-at` have to answer: of the properties from a place on the last of a name, or else the best that was found
 -- before.
 -- Assumes nothing.
-use Prim.Native.Nat.{ℕ, ◌+◌, ◌≤◌, ◌<◌}
+use Prim.Native.Nat.{ℕ, ◌+◌, ◌≤◌}
 use native.Mathlib.Omega.{arith}
 use mathlib.Core.Path.{◌≡◌, refl, sym, ap, ◌∙◌}
 use mathlib.Core.Bool.{true, false, cond}
 use mathlib.Core.List.{List, [], ◌∷◌}
-use mathlib.Core.Option.{Option, none, some}
-use lib.ListN.{length, drop, get_or}
+use lib.ListN.{length, drop}
+use Rattle.std.specs.Prelude.{Option, Some, None, Result, Ok, Err}
 use Rattle.octets.specs.Parse.{Parse, bad, got, and_then, place_of}
 use Rattle.octets.specs.BigEndian.{uint}
 use Rattle.octets.specs.Compare.{same, part}
-use Rattle.octets.proofs.BigEndianLaws.{uint-short}
-use Rattle.amf0.specs.Decode.{Property, name_of, object_of, marker_of, value}
+use Rattle.amf0.specs.Decode.{Property, name_of, object_of, marker as marker_at, value}
 use Rattle.amf0.specs.Lookup.{or_else, last_of, properties_of, properties_at}
 use Rattle.amf0.specs.Names.{named_of, with_value, property_of}
-use Rattle.amf0.specs.Places.{end_of, kind_at, start_of, start_after, start_from, start_at, found_at, found_of, only_text, text_found, text_of_property}
+use Rattle.amf0.specs.Places.{malformed, end_of, kind_at, start_of, start_after, start_from, start_at, found_at, found_of, text_told, text_found, text_of_property}
 use Rattle.amf0.specs.declared.marker.Marker.{Marker}
-use Rattle.amf0.specs.declared.marker.Marker.TheVariants.{Number, Boolean, Text, Object, Null, Undefined, EcmaArray, StrictArray, Other}
+use Rattle.amf0.specs.declared.marker.Marker.TheVariants.{Number, Boolean, Text, Object, Null, Undefined, EcmaArray, StrictArray}
 use Rattle.amf0.specs.declared.names.Named.{Named}
-use Rattle.amf0.specs.declared.names.Named.TheVariants as names
-use Rattle.amf0.specs.declared.properties.Found.{Found}
-use Rattle.amf0.specs.declared.properties.Found.TheVariants as found
-use Rattle.amf0.specs.declared.properties.PropertyAt.{PropertyAt}
-use Rattle.amf0.specs.declared.properties.PropertyAt.TheVariants as property
-use Rattle.amf0.specs.declared.properties.TextAt.TheVariants as texts
-use Rattle.amf0.specs.declared.read.Next.{Next}
-use Rattle.amf0.specs.declared.read.Next.TheVariants as next
-use Rattle.amf0.proofs.CutLaws.{clash, Past, past-past, past-place, cuts-uint, cuts-value}
-use Rattle.amf0.proofs.PlaceLaws.{UintRead, Read, byte_at, place_at, at_read, bad-read}
+use Rattle.amf0.specs.declared.names.Named.TheVariants.{End, At}
+use Rattle.amf0.specs.declared.properties.Property.{Property as Placed}
+use Rattle.octets.specs.declared.span.Span.{Span}
+use Rattle.amf0.specs.declared.read.Malformed.{Malformed}
+use Rattle.amf0.proofs.CutLaws.{clash, Past, past-past, past-place, cuts-uint, cuts-marker, cuts-value}
+use Rattle.amf0.proofs.PlaceLaws.{MarkerRead, UintRead, Read, place_at, marker-over, at_read, bad-read}
 use Rattle.amf0.proofs.TextLaws.{NamePlace, name-place, name-last, no_name}
 use Rattle.amf0.proofs.ReadLaws.{object-bad, object-last, object-stop, object-step}
 use Rattle.amf0.proofs.LookupLaws.{Stands, found-stands}
@@ -39,53 +34,54 @@ pub record PropertyRead (s : List ℕ) (i start len j : ℕ) : Type 0 where
   pub valued : Read s (start + len) 1 j (value 7 (drop (start + len) s))
 
 module _ (s : List ℕ) (i : ℕ) where
-  abbrev pub Says : PropertyAt → Type 0
-  Says property.End = (r : List ℕ) × (object_of (value 7) (drop i s) ≡ got [] r)
-  Says (property.At start len j) = PropertyRead s i start len j
-  Says property.Malformed = object_of (value 7) (drop i s) ≡ bad
+  abbrev pub Says : Result (Option Placed) Malformed → Type 0
+  Says (Ok None) = (r : List ℕ) × (object_of (value 7) (drop i s) ≡ got [] r)
+  Says (Ok (Some p)) = PropertyRead s i p.name.start p.name.len p.next
+  Says (Err d) = object_of (value 7) (drop i s) ≡ bad
 
-  pub property-says : (o : PropertyAt) → o ≡ property_of s (named_of s (name_of (drop i s))) → Says o
+  pub property-says : (o : Result (Option Placed) Malformed) → o ≡ property_of s (named_of s (name_of (drop i s))) → Says o
   unfolding property_of
   property-says o e = rw e (go (named_of s (name_of (drop i s))) refl)
     where
-      valued : (x l : ℕ) → NamePlace s i x l → (o : Next) → o ≡ end_of s (value 7 (drop (x + l) s)) → Says (with_value x l o)
-      valued x l n (next.At k) v = record { named = n; valued = at_read s (x + l) 1 k _ n.within (cuts-value 7 _) v }
-      valued x l n next.Malformed v = object-stop (value 7) (cuts-value 7) s i n (bad-read s _ v)
+      valued : (p : Span) → NamePlace s i p.start p.len → (o : Result ℕ Malformed) → o ≡ end_of s (value 7 (drop (p.start + p.len) s))
+          → Says (with_value p o)
+      valued p n (Ok k) v = record { named = n; valued = at_read s (p.start + p.len) 1 k _ n.within (cuts-value 7 _) v }
+      valued p n (Err d) v = object-stop (value 7) (cuts-value 7) s i n (bad-read s _ v)
 
-      go : (o : Named) → o ≡ named_of s (name_of (drop i s)) → Says (property_of s o)
-      go (names.End x) q = (drop x s, object-last (value 7) (cuts-value 7) s i (name-last s i x q).0)
-      go (names.At x l) q = valued x l (name-place s i x l q) (end_of s (value 7 (drop (x + l) s))) refl
-      go names.Malformed q = object-bad (value 7) (cuts-value 7) s i (no_name s _ q)
+      go : (o : Result Named Malformed) → o ≡ named_of s (name_of (drop i s)) → Says (property_of s o)
+      go (Ok (End x)) q = (drop x s, object-last (value 7) (cuts-value 7) s i (name-last s i x q).0)
+      go (Ok (At p)) q = valued p (name-place s i p q) (end_of s (value 7 (drop (p.start + p.len) s))) refl
+      go (Err d) q = object-bad (value 7) (cuts-value 7) s i (no_name s _ q)
 
 -- what stands in the rest, or else what was found before
-abbrev pub or_best : Found → Found → Found
-or_best b (found.At e) = found.At e
-or_best b found.Absent = b
-or_best b found.Malformed = found.Malformed
+abbrev pub or_best : Option ℕ → Result (Option ℕ) Malformed → Result (Option ℕ) Malformed
+or_best b (Ok (Some e)) = Ok (Some e)
+or_best b (Ok None) = Ok b
+or_best b (Err d) = Err d
 
-pub none_before : (r : Found) → r ≡ or_best found.Absent r
-none_before (found.At e) = refl
-none_before found.Absent = refl
-none_before found.Malformed = refl
+pub none_before : (r : Result (Option ℕ) Malformed) → r ≡ or_best None r
+none_before (Ok (Some e)) = refl
+none_before (Ok None) = refl
+none_before (Err d) = refl
 
-module _ (s name : List ℕ) (b : Found) where
-  pub best-bad : (p : Parse (List Property)) → p ≡ bad → found.Malformed ≡ or_best b (found_of s name p)
+module _ (s name : List ℕ) (b : Option ℕ) where
+  pub best-bad : (p : Parse (List Property)) → p ≡ bad → Err malformed ≡ or_best b (found_of s name p)
   unfolding found_of
   best-bad p e = rw e
 
-  pub best-last : (p : Parse (List Property)) {r : List ℕ} → p ≡ got [] r → b ≡ or_best b (found_of s name p)
+  pub best-last : (p : Parse (List Property)) {r : List ℕ} → p ≡ got [] r → Ok b ≡ or_best b (found_of s name p)
   unfolding found_of found_at last_of
   best-last p e = rw e
 
   best_hit : (e : ℕ) (p : Property) → place_of s p.from ≡ e → same p.name name ≡ true → (m : Parse (List Property))
-      → or_best b (found_of s name (and_then m (λ ps x. got (p ∷ ps) x))) ≡ or_best (found.At e) (found_of s name m)
+      → or_best b (found_of s name (and_then m (λ ps x. got (p ∷ ps) x))) ≡ or_best (Some e) (found_of s name m)
   unfolding found_of found_at last_of
   best_hit e p i h bad = refl
   best_hit e p i h (got ps r) = go (last_of name ps)
     where
-      go : (o : Option Property) → or_best b (found_at s (or_else o (cond (same p.name name) (some p) none))) ≡ or_best (found.At e) (found_at s o)
-      go (some q) = refl
-      go none = rw h (ap found.At i)
+      go : (o : Option Property) → or_best b (Ok (found_at s (or_else o (cond (same p.name name) (Some p) None)))) ≡ or_best (Some e) (Ok (found_at s o))
+      go (Some q) = refl
+      go None = rw h (ap (λ (k : ℕ). Ok (Some k)) i)
 
   best_miss : (p : Property) → same p.name name ≡ false → (m : Parse (List Property))
       → or_best b (found_of s name (and_then m (λ ps x. got (p ∷ ps) x))) ≡ or_best b (found_of s name m)
@@ -93,14 +89,14 @@ module _ (s name : List ℕ) (b : Found) where
   best_miss p h bad = refl
   best_miss p h (got ps r) = go (last_of name ps)
     where
-      go : (o : Option Property) → or_best b (found_at s (or_else o (cond (same p.name name) (some p) none))) ≡ or_best b (found_at s o)
-      go (some q) = refl
-      go none = rw h
+      go : (o : Option Property) → or_best b (Ok (found_at s (or_else o (cond (same p.name name) (Some p) None)))) ≡ or_best b (Ok (found_at s o))
+      go (Some q) = refl
+      go None = rw h
 
   -- a property was read: its name is the one that is looked for, or not
   module _ (i : ℕ) {start len j : ℕ} (p : PropertyRead s i start len j) where
     pub find_hit : same (part s start len) name ≡ true
-        → or_best b (found_of s name (object_of (value 7) (drop i s))) ≡ or_best (found.At (start + len)) (found_of s name (object_of (value 7) (drop j s)))
+        → or_best b (found_of s name (object_of (value 7) (drop i s))) ≡ or_best (Some (start + len)) (found_of s name (object_of (value 7) (drop j s)))
     find_hit h =
         rw (object-step (value 7) (cuts-value 7) s i p.named p.valued)
         (best_hit _ _ (place_at s (start + len) p.named.within) h (object_of (value 7) (drop j s)))
@@ -111,37 +107,47 @@ module _ (s name : List ℕ) (b : Found) where
 
 pub properties-over : (s : List ℕ) (at : ℕ) → length s ≤ at → properties_at (drop at s) ≡ bad
 unfolding properties_at
-properties-over s at h = rw (uint-short 1 s at (omega arith))
+properties-over s at h = rw (marker-over s at h)
 
 -- where the properties of the value at a place start
-pub start-over : (s : List ℕ) (at : ℕ) → length s ≤ at → found.Malformed ≡ start_at s (drop at s)
-unfolding start_at
-start-over s at h = rw (uint-short 1 s at (omega arith))
-
-pub start_is : (s : List ℕ) (at : ℕ) → at < length s → (k : Marker) → k ≡ marker_of (get_or s at 0) → (m : Marker) → k ≡ m
-    → start_after s m (drop (at + 1) s) ≡ start_at s (drop at s)
-unfolding start_at
-start_is s at l k q m t = rw (byte_at s at l, ← q, t)
-
 module _ (s : List ℕ) (at : ℕ) where
-  pub ecma_short : uint 4 (drop at s) ≡ bad → found.Malformed ≡ start_after s EcmaArray (drop at s)
+  pub start-none : marker_at (drop at s) ≡ bad → Err malformed ≡ start_at s (drop at s)
+  unfolding start_at
+  start-none e = rw e
+
+  pub start_is : {k : Marker} → MarkerRead s at k → start_after s k (drop (at + 1) s) ≡ start_at s (drop at s)
+  unfolding start_at
+  start_is m = rw m.is
+
+  -- no other value has properties
+  pub start_other : (k : Marker) → (k ≡ Object → ⊥) → (k ≡ EcmaArray → ⊥) → Ok None ≡ start_after s k (drop (at + 1) s)
+  start_other Number o e = refl
+  start_other Boolean o e = refl
+  start_other Text o e = refl
+  start_other Object o e = absurd (o refl)
+  start_other Null o e = refl
+  start_other Undefined o e = refl
+  start_other EcmaArray o e = absurd (e refl)
+  start_other StrictArray o e = refl
+
+  pub ecma_short : uint 4 (drop at s) ≡ bad → Err malformed ≡ start_after s EcmaArray (drop at s)
   ecma_short e = rw e
 
-  pub ecma-is : {n : ℕ} → at ≤ length s → UintRead 4 s at n → found.At (at + 4) ≡ start_after s EcmaArray (drop at s)
-  ecma-is h u = rw u.is (ap found.At (sym (place_at s (at + 4) (omega (arith, u.within)))))
+  pub ecma-is : {n : ℕ} → at ≤ length s → UintRead 4 s at n → Ok (Some (at + 4)) ≡ start_after s EcmaArray (drop at s)
+  ecma-is h u = rw u.is (ap (λ (k : ℕ). Ok (Some k)) (sym (place_at s (at + 4) (omega (arith, u.within)))))
 
 -- what `find` answers after each answer of `properties_at`
-abbrev pub found_from : List ℕ → List ℕ → Found → Found
-found_from s name (found.At p) = found_of s name (object_of (value 7) (drop p s))
-found_from s name found.Absent = found.Absent
-found_from s name found.Malformed = found.Malformed
+abbrev pub found_from : List ℕ → List ℕ → Result (Option ℕ) Malformed → Result (Option ℕ) Malformed
+found_from s name (Ok (Some p)) = found_of s name (object_of (value 7) (drop p s))
+found_from s name (Ok None) = Ok None
+found_from s name (Err d) = Err d
 
 module _ (s name : List ℕ) (at : ℕ) where
-  pub found-from : (o : Found) → o ≡ start_at s (drop at s) → found_from s name o ≡ found_of s name (properties_at (drop at s))
+  pub found-from : (o : Result (Option ℕ) Malformed) → o ≡ start_at s (drop at s) → found_from s name o ≡ found_of s name (properties_at (drop at s))
   unfolding start_at properties_at properties_of found_of found_at last_of
-  found-from o e = rw e (go (uint 1 (drop at s)) refl)
+  found-from o e = rw e (go (marker_at (drop at s)) refl)
     where
-      inside : {m : ℕ} {r : List ℕ} → Past m (drop at s) r → found_from s name (found.At (place_of s r)) ≡ found_of s name (object_of (value 7) r)
+      inside : {m : ℕ} {r : List ℕ} → Past m (drop at s) r → found_from s name (Ok (Some (place_of s r))) ≡ found_of s name (object_of (value 7) r)
       inside h = ap (λ (x : List ℕ). found_of s name (object_of (value 7) x)) (sym (past-place s at h))
 
       counted : (r : List ℕ) → Past 1 (drop at s) r → (p : Parse ℕ) → uint 4 r ≡ p
@@ -158,46 +164,37 @@ module _ (s name : List ℕ) (at : ℕ) where
       after Undefined r h = refl
       after EcmaArray r h = counted r h (uint 4 r) refl
       after StrictArray r h = refl
-      after Other r h = refl
 
-      go : (p : Parse ℕ) → uint 1 (drop at s) ≡ p
-          → found_from s name (start_from s p) ≡ found_of s name (and_then p (λ m r. properties_of (marker_of m) r))
+      go : (p : Parse Marker) → marker_at (drop at s) ≡ p → found_from s name (start_from s p) ≡ found_of s name (and_then p properties_of)
       go bad e = refl
-      go (got m r) e = after (marker_of m) r ((cuts-uint 1 (drop at s)).cut e)
+      go (got m r) e = after m r ((cuts-marker (drop at s)).cut e)
 
 -- a text under a property's name
 module _ (s name : List ℕ) where
-  pub text-found : (at e : ℕ) → found.At e ≡ found_of s name (properties_at (drop at s))
-      → only_text (kind_at s (drop e s)) ≡ text_of_property s name (properties_at (drop at s))
+  pub text-found : (at e : ℕ) → Ok (Some e) ≡ found_of s name (properties_at (drop at s))
+      → text_told (kind_at s (drop e s)) ≡ text_of_property s name (properties_at (drop at s))
   unfolding found_of found_at text_of_property text_found
   text-found at e h = go (properties_at (drop at s)) refl h
     where
-      there : (o : Option Property) → ((p : Property) → o ≡ some p → Stands (value 7) (drop at s) p) → found.At e ≡ found_at s o
-          → only_text (kind_at s (drop e s)) ≡ text_found s o
-      there none t h = clash (cc)
-      there (some p) t h =
+      there : (o : Option Property) → ((p : Property) → o ≡ Some p → Stands (value 7) (drop at s) p) → Some e ≡ found_at s o
+          → text_told (kind_at s (drop e s)) ≡ text_found s o
+      there None t h = clash (cc)
+      there (Some p) t h =
           let i : e ≡ place_of s p.from = cc in
-          ap (λ (x : List ℕ). only_text (kind_at s x)) (ap (λ (k : ℕ). drop k s) i ∙ sym (past-place s at (t p refl).place))
+          ap (λ (x : List ℕ). text_told (kind_at s x)) (ap (λ (k : ℕ). drop k s) i ∙ sym (past-place s at (t p refl).place))
 
-      go : (q : Parse (List Property)) → properties_at (drop at s) ≡ q → found.At e ≡ found_of s name q
-          → only_text (kind_at s (drop e s)) ≡ text_of_property s name q
+      go : (q : Parse (List Property)) → properties_at (drop at s) ≡ q → Ok (Some e) ≡ found_of s name q
+          → text_told (kind_at s (drop e s)) ≡ text_of_property s name q
       go bad i h = clash (cc)
-      go (got ps r) i h = there (last_of name ps) (λ p. found-stands name p (drop at s) i) h
+      go (got ps r) i h = there (last_of name ps) (λ p. found-stands name p (drop at s) i) (let z : Some e ≡ found_at s (last_of name ps) = cc in z)
 
-  pub text-absent : (q : Parse (List Property)) → found.Absent ≡ found_of s name q → texts.Absent ≡ text_of_property s name q
+  -- there is no text where nothing is found
+  pub text-none : (q : Parse (List Property)) (o : Result (Option ℕ) Malformed) → o ≡ found_of s name q → ((e : ℕ) → o ≡ Ok (Some e) → ⊥)
+      → None ≡ text_of_property s name q
   unfolding found_of found_at text_of_property text_found
-  text-absent bad h = refl
-  text-absent (got ps r) h = go (last_of name ps) h
+  text-none bad o h n = refl
+  text-none (got ps r) o h n = go (last_of name ps) h
     where
-      go : (o : Option Property) → found.Absent ≡ found_at s o → texts.Absent ≡ text_found s o
-      go none h = refl
-      go (some p) h = clash (cc)
-
-  pub text-malformed : (q : Parse (List Property)) → found.Malformed ≡ found_of s name q → texts.Absent ≡ text_of_property s name q
-  unfolding found_of found_at text_of_property
-  text-malformed bad h = refl
-  text-malformed (got ps r) h = go (last_of name ps) h
-    where
-      go : (o : Option Property) → found.Malformed ≡ found_at s o → texts.Absent ≡ text_found s o
-      go none h = clash (cc)
-      go (some p) h = clash (cc)
+      go : (p : Option Property) → o ≡ Ok (found_at s p) → None ≡ text_found s p
+      go None h = refl
+      go (Some p) h = absurd (n _ h)

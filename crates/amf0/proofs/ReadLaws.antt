@@ -6,30 +6,26 @@ use mathlib.Core.Path.{◌≡◌, refl, sym, ap, ◌∙◌}
 use mathlib.Core.Bool.{true, false}
 use mathlib.Core.List.{List, [], ◌∷◌}
 use lib.Dec.{eqb}
-use lib.ListN.{length, drop, get_or, length-drop}
+use lib.ListN.{length, drop, length-drop}
 use borrow.Author.Tests.{eq-eqb, ne_eqb}
+use Rattle.std.specs.Prelude.{Result, Ok, Err}
 use Rattle.octets.specs.Parse.{Parse, bad, got, and_then}
 use Rattle.octets.specs.BigEndian.{uint}
 use Rattle.octets.specs.Compare.{part}
 use Rattle.amf0.specs.Value.{Value, Values, cons}
-use Rattle.amf0.specs.Decode.{last, name_of, object_of, values, content, marker_of, value, top_value, all_values}
+use Rattle.amf0.specs.Decode.{last, name_of, object_of, values, content, marker, value, top_value, all_values}
 use Rattle.amf0.specs.Encode.{count}
-use Rattle.amf0.specs.Places.{end_of, count_of}
+use Rattle.amf0.specs.Places.{end_of, count_of, malformed}
 use Rattle.amf0.specs.declared.marker.Marker.{Marker}
 use Rattle.amf0.specs.declared.marker.Marker.TheVariants.{EcmaArray, StrictArray}
-use Rattle.amf0.specs.declared.read.Counted.{Counted}
-use Rattle.amf0.specs.declared.read.Counted.TheVariants as counted
-use Rattle.amf0.specs.declared.read.Next.TheVariants as next
-use Rattle.amf0.proofs.CutLaws.{Cuts, cuts_short, cuts-properties, cuts-value}
+use Rattle.amf0.specs.declared.read.Malformed.{Malformed}
+use Rattle.amf0.proofs.CutLaws.{Cuts, cuts-value}
 use Rattle.amf0.proofs.Fuel.{object-is, all-is}
-use Rattle.amf0.proofs.PlaceLaws.{UintRead, Read, byte_at, end-got, forget}
+use Rattle.amf0.proofs.PlaceLaws.{MarkerRead, UintRead, Read, end-got, forget}
 use Rattle.amf0.proofs.TextLaws.{NamePlace}
 
 -- an object, property by property
 module _ (f : List ℕ → Parse Value) (hf : (x : List ℕ) → Cuts 1 x (f x)) (s : List ℕ) (i : ℕ) where
-  pub object-over : length s ≤ i → object_of f (drop i s) ≡ bad
-  object-over h = cuts_short (object_of f (drop i s)) (cuts-properties f hf _ _) (omega (arith, length-drop i s))
-
   pub object-bad : name_of (drop i s) ≡ bad → object_of f (drop i s) ≡ bad
   object-bad e = object-is f hf (drop i s) ∙ rw e
 
@@ -46,7 +42,7 @@ module _ (f : List ℕ → Parse Value) (hf : (x : List ℕ) → Cuts 1 x (f x))
 
 -- an array, value by value
 module _ (f : List ℕ → Parse Value) (s : List ℕ) (i : ℕ) where
-  pub values-none : (n : ℕ) → n ≤ 0 → i ≤ length s → next.At i ≡ end_of s (values f n (drop i s))
+  pub values-none : (n : ℕ) → n ≤ 0 → i ≤ length s → Ok i ≡ end_of s (values f n (drop i s))
   unfolding values
   values-none n z h = let e : n ≡ 0 = omega arith in rw e (end-got s i _ h)
 
@@ -68,16 +64,17 @@ module _ (s : List ℕ) (at d : ℕ) where
   unfolding value
   value_none e = rw e
 
-  pub value-over : length s ≤ at → value d (drop at s) ≡ bad
-  value-over h = cuts_short (value d (drop at s)) (cuts-value d (drop at s)) (omega (arith, length-drop at s))
-
-pub value-is : (s : List ℕ) (at d : ℕ) → (d ≡ 0 → ⊥) → at < length s → (k : Marker) → k ≡ marker_of (get_or s at 0) → (m : Marker) → k ≡ m
-    → value d (drop at s) ≡ content (value (d - 1)) m (drop (at + 1) s)
+pub value_bad : (s : List ℕ) (at d : ℕ) → marker (drop at s) ≡ bad → value d (drop at s) ≡ bad
 unfolding value
-value-is s at zero z l k q m t = absurd (z refl)
-value-is s at (suc d) z l k q m t =
+value_bad s at zero e = refl
+value_bad s at (suc d) e = rw e
+
+pub value-is : (s : List ℕ) (at d : ℕ) → (d ≡ 0 → ⊥) → {k : Marker} → MarkerRead s at k → value d (drop at s) ≡ content (value (d - 1)) k (drop (at + 1) s)
+unfolding value
+value-is s at zero z m = absurd (z refl)
+value-is s at (suc d) z m =
     let e : suc d - 1 ≡ d = omega arith in
-    rw (byte_at s at l, ← q, t, e)
+    rw (m.is, e)
 
 -- the two arrays, by their count
 module _ (f : List ℕ → Parse Value) (s : List ℕ) (at : ℕ) where
@@ -98,26 +95,26 @@ module _ (f : List ℕ → Parse Value) (s : List ℕ) (at : ℕ) where
   strict-is {n} u = rw u.is (forget s (values f n (drop (at + 4) s)) _)
 
 -- n values, and those that are counted after them
-abbrev pub plus : ℕ → Counted → Counted
-plus n (counted.Is m) = counted.Is (n + m)
-plus n counted.Malformed = counted.Malformed
+abbrev pub plus : ℕ → Result ℕ Malformed → Result ℕ Malformed
+plus n (Ok m) = Ok (n + m)
+plus n (Err d) = Err d
 
-pub none_before : (c : Counted) → c ≡ plus 0 c
-none_before (counted.Is m) = ap counted.Is (omega arith)
-none_before counted.Malformed = refl
+pub none_before : (c : Result ℕ Malformed) → c ≡ plus 0 c
+none_before (Ok m) = ap Ok (omega arith)
+none_before (Err d) = refl
 
 -- values to the end of s, one by one
 module _ (s : List ℕ) (i n : ℕ) where
   left : i < length s → eqb (length (drop i s)) 0 ≡ false
   left l = ne_eqb (length (drop i s)) 0 (λ e. omega (arith, length-drop i s))
 
-  pub count-end : length s ≤ i → counted.Is n ≡ plus n (count_of (all_values (drop i s)))
+  pub count-end : length s ≤ i → Ok n ≡ plus n (count_of (all_values (drop i s)))
   unfolding count_of count
   count-end h =
       let e : eqb (length (drop i s)) 0 ≡ true = eq-eqb (length (drop i s)) 0 (omega (arith, length-drop i s)) in
-      rw (all-is top_value (cuts-value _) (drop i s), e) (ap counted.Is (omega arith))
+      rw (all-is top_value (cuts-value _) (drop i s), e) (ap Ok (omega arith))
 
-  pub count-stop : i < length s → top_value (drop i s) ≡ bad → counted.Malformed ≡ plus n (count_of (all_values (drop i s)))
+  pub count-stop : i < length s → top_value (drop i s) ≡ bad → Err malformed ≡ plus n (count_of (all_values (drop i s)))
   unfolding count_of
   count-stop l e = rw (all-is top_value (cuts-value _) (drop i s), left l, e)
 
@@ -128,4 +125,4 @@ module _ (s : List ℕ) (i n : ℕ) where
     where
       go : (v : Value) (p : Parse Values) → plus n (count_of (and_then p (λ vs x. got (cons v vs) x))) ≡ plus (n + 1) (count_of p)
       go v bad = refl
-      go v (got vs x) = ap counted.Is (omega arith)
+      go v (got vs x) = ap Ok (omega arith)

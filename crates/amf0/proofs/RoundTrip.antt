@@ -9,32 +9,34 @@ use lib.Dec.{ltb}
 use lib.ListN.{length, take, drop, length-append}
 use lib.Seq.{sets-eq, take_at, drop_at, length-take-le}
 use borrow.Author.Tests.{ne_eqb}
+use Rattle.std.specs.Prelude.{Ok, Err}
 use Rattle.octets.specs.Parse.{Parse, got}
 use Rattle.octets.specs.BigEndian.{digits, uint}
 use Rattle.octets.specs.Utf8.{utf8}
-use Rattle.octets.specs.Output.{Put, Written, answer, left}
-use Rattle.octets.specs.declared.output.Wrote.TheVariants.{Done, NoSpace}
+use Rattle.octets.specs.Output.{Put, Written, answer, left, no_space}
+use Rattle.octets.specs.declared.output.Writer.{Writer}
 use Rattle.octets.specs.Compare.{part}
 use Rattle.octets.proofs.Utf8Laws.{utf8_nil}
 use Rattle.octets.proofs.ParseLaws.{field-append}
 use Rattle.octets.proofs.BigEndianLaws.{uint-digits}
 use Rattle.amf0.specs.Value.{Value, number, boolean, text, object, null, undefined, strict, Props, end, prop, Values, nil, cons}
-use Rattle.amf0.specs.Decode.{marker_of, text_of, last, named, name_of, Property, plainly, properties, values, content, value, top_value, to_end, all_values}
+use Rattle.amf0.specs.Decode.{marker_of, marker, text_of, last, named, name_of, Property, plainly, properties, values, content, value, top_value, to_end, all_values}
 use Rattle.amf0.specs.Encode.{text_bytes, count, encode, encode_props, encode_values, Within, PropsWithin, ValuesWithin}
 use Rattle.amf0.specs.Lookup.{properties_of, properties_at}
 use Rattle.amf0.specs.declared.marker.Marker.TheVariants.{Boolean}
+use Rattle.amf0.specs.declared.marker.Marker.{Marker}
 use Rattle.amf0.proofs.EncodeLaws.{length-prop, length-cons, some_bytes}
 
 one_byte : (m : ℕ) (s : List ℕ) → uint 1 (m ∷ s) ≡ got m s
 unfolding uint
 one_byte m s = rw (field-append 1 (m ∷ []) s refl) (ap (λ (n : ℕ). got n s) (omega arith))
 
-value-step : (d m : ℕ) (s : List ℕ) → 0 < d → value d (m ∷ s) ≡ content (value (d - 1)) (marker_of m) s
-unfolding value
-value-step zero m s h = absurd (omega arith)
-value-step (suc d) m s h =
+value-step : (d m : ℕ) (s : List ℕ) {k : Marker} → 0 < d → marker_of m ≡ Ok k → value d (m ∷ s) ≡ content (value (d - 1)) k s
+unfolding value marker
+value-step zero m s h k = absurd (omega arith)
+value-step (suc d) m s h k =
     let e : suc d - 1 ≡ d = omega arith in
-    rw (one_byte, e)
+    rw (one_byte, k, e)
 
 pub text-round : (t r : List ℕ) → length t < 2 ^ 16 → utf8 t ≡ true → text_of (text_bytes t ++ r) ≡ got t r
 unfolding text_of text_bytes
@@ -72,16 +74,16 @@ mutual
   unfolding encode Within content marker_of count properties values
 
   pub round : (v : Value) (d : ℕ) (r : List ℕ) → Within v d → value d (encode v ++ r) ≡ got v r
-  round (number n) d r h = value-step d _ _ (omega arith) ∙ rw (uint-digits 8 n r (omega arith))
-  round (boolean b) d r h = value-step d _ _ (omega arith) ∙ boolean-round (value (d - 1)) b r
-  round (text t) d r h = value-step d _ _ (omega arith) ∙ rw (text-round t r (omega arith) h.2)
+  round (number n) d r h = value-step d _ _ (omega arith) refl ∙ rw (uint-digits 8 n r (omega arith))
+  round (boolean b) d r h = value-step d _ _ (omega arith) refl ∙ boolean-round (value (d - 1)) b r
+  round (text t) d r h = value-step d _ _ (omega arith) refl ∙ rw (text-round t r (omega arith) h.2)
   round (object ps) d r h =
-      value-step d _ _ (omega arith)
+      value-step d _ _ (omega arith) refl
       ∙ rw (properties-round ps (d - 1) (length (encode_props ps ++ r)) r h.1 (omega (arith, length-append (encode_props ps) r)), plainly-located ps r)
-  round null d r h = value-step d _ _ (omega arith)
-  round undefined d r h = value-step d _ _ (omega arith)
+  round null d r h = value-step d _ _ (omega arith) refl
+  round undefined d r h = value-step d _ _ (omega arith) refl
   round (strict vs) d r h =
-      value-step d _ _ (omega arith)
+      value-step d _ _ (omega arith) refl
       ∙ rw (append_assoc, uint-digits 4 (count vs) (encode_values vs ++ r) (omega arith), strict-round vs (d - 1) r h.2)
 
   pub properties-round : (ps : Props) (d k : ℕ) (r : List ℕ) → PropsWithin ps d → length (encode_props ps) ≤ k
@@ -104,7 +106,7 @@ mutual
 
 -- the properties of an object at the top, where they stand
 pub object-round : (ps : Props) (r : List ℕ) → PropsWithin ps 7 → properties_at (encode (object ps) ++ r) ≡ got (located ps r) r
-unfolding properties_at properties_of marker_of encode
+unfolding properties_at properties_of marker_of marker encode
 object-round ps r h = rw (one_byte, properties-round ps 7 (length (encode_props ps ++ r)) r h (omega (arith, length-append (encode_props ps) r)))
 
 -- the first of the values of a body, with the others left
@@ -127,33 +129,35 @@ pub values-round : (vs : Values) → ValuesWithin vs 8 → all_values (encode_va
 values-round vs h = to-end vs (length (encode_values vs)) h (omega arith)
 
 -- what was put stands there
-placed : {old b new : List ℕ} {at next : ℕ} → Put old at b new next → next ≤ length old → part new at (next - at) ≡ b
-placed {old} {b} {at = at} {next} p l =
-    let n : length (take at old) ≡ at = length-take-le at old (omega (arith, p.next_is)) in
+placed : {old new : Writer} {b : List ℕ} → Put old b new → new.at ≤ length old.out.now → part new.out.now old.at (new.at - old.at) ≡ b
+placed {old} {new} {b} p l =
+    let s = old.out.now in
+    let at = old.at in
+    let n : length (take at s) ≡ at = length-take-le at s (omega (arith, p.next_is)) in
     rw (
       p.list,
-      sets-eq b old at (omega (arith, p.next_is)),
+      sets-eq b s at (omega (arith, p.next_is)),
       append_assoc,
-      drop_at (take at old) (b ++ drop (at + length b) old) at n,
-      take_at b (drop (at + length b) old) (next - at) (omega (arith, p.next_is)),
+      drop_at (take at s) (b ++ drop (at + length b) s) at n,
+      take_at b (drop (at + length b) s) (new.at - at) (omega (arith, p.next_is)),
     )
 
--- the values that were put from `at` to `next` are read back there
-pub put_reads : (vs : Values) {old new : List ℕ} {at next : ℕ} → ValuesWithin vs 8 → Put old at (encode_values vs) new next → next ≤ length old
-    → all_values (part new at (next - at)) ≡ got vs []
+-- the values that were put are read back from where the writer stood to where it stands
+pub put_reads : (vs : Values) {old new : Writer} → ValuesWithin vs 8 → Put old (encode_values vs) new → new.at ≤ length old.out.now
+    → all_values (part new.out.now old.at (new.at - old.at)) ≡ got vs []
 put_reads vs h p l = rw (placed p l) (values-round vs h)
 
-written : {old b new : List ℕ} {k : ℕ} (t : Bool) → ltb (length old) (length b) ≡ t → Written old b new (Done k) → take k new ≡ b
+written : {old b new : List ℕ} {k : ℕ} (t : Bool) → ltb (length old) (length b) ≡ t → Written old b new (Ok k) → take k new ≡ b
 unfolding answer left
 written {old} {b} {new} {k} true e w =
-    let c : Done k ≡ NoSpace = w.answered ∙ rw e in
+    let c : Ok k ≡ (Err no_space) = w.answered ∙ rw e in
     absurd (let z : ◌≡◌ {A = ℕ} 0 1 = cc in omega arith)
 written {old} {b} {new} {k} false e w =
-    let c : Done k ≡ Done (length b) = w.answered ∙ rw e in
+    let c : Ok k ≡ Ok (length b) = w.answered ∙ rw e in
     let n : new ≡ b ++ drop (length b) old = w.list ∙ rw e in
     rw (n, take_at b (drop (length b) old) k (cc))
 
 -- and so is a body of values that a caller finds in its output
-pub written-reads : (vs : Values) {old new : List ℕ} {k : ℕ} → ValuesWithin vs 8 → Written old (encode_values vs) new (Done k)
+pub written-reads : (vs : Values) {old new : List ℕ} {k : ℕ} → ValuesWithin vs 8 → Written old (encode_values vs) new (Ok k)
     → all_values (take k new) ≡ got vs []
 written-reads vs {old} h w = rw (written (ltb (length old) (length (encode_values vs))) refl w) (values-round vs h)

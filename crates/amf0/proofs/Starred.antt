@@ -7,7 +7,7 @@ use Rattle.octets.specs.Parse.{Parse, got, field}
 use Rattle.octets.specs.BigEndian.{uint}
 use Rattle.octets.specs.Utf8.{utf8, any_row, octets}
 use Rattle.amf0.specs.Value.{Value}
-use Rattle.amf0.specs.Decode.{marker_of, text_of, name_of, properties, values, content, value, top_value}
+use Rattle.amf0.specs.Decode.{marker_of, marker, text_of, name_of, properties, values, content, value, top_value}
 use Rattle.amf0.specs.Starred.{Row, is, passes, alone, Says, rows}
 
 data Answer : Type 0 where
@@ -32,5 +32,5 @@ each (x ∷ xs) e r (Memᴰ.head p) = rw p (says x (cc))
 each (x ∷ xs) e r (Memᴰ.tail m) = each xs (cc) r m
 
 pub starred : (r : Row) → Memᴰ r rows → Says r
-unfolding value content marker_of text_of name_of properties values uint field utf8 any_row octets
+unfolding value content marker_of marker text_of name_of properties values uint field utf8 any_row octets
 starred r m = each rows refl r m

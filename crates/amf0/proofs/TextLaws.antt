@@ -6,22 +6,24 @@ use mathlib.Core.Path.{◌≡◌, refl, sym, ap, ◌∙◌}
 use mathlib.Core.Bool.{Bool, true, false, cond}
 use mathlib.Core.List.{List}
 use lib.Dec.{eqb}
-use lib.ListN.{length, take, drop, get_or, length-drop}
+use lib.ListN.{length, take, drop, length-drop}
 use lib.Seq.{drop-drop, length-take-le}
 use borrow.Author.Tests.{eq-eqb, ne_eqb}
+use Rattle.std.specs.Prelude.{Ok, Err}
 use Rattle.octets.specs.Parse.{Parse, bad, got, field, place_of}
 use Rattle.octets.specs.BigEndian.{uint}
 use Rattle.octets.specs.Utf8.{utf8}
 use Rattle.octets.specs.Compare.{part}
 use Rattle.octets.proofs.ParseLaws.{field_at, field-short}
-use Rattle.octets.proofs.BigEndianLaws.{uint-short}
 use Rattle.amf0.specs.Decode.{text_of, Name, last, named, end_mark, name_of}
 use Rattle.amf0.specs.Names.{named_of}
-use Rattle.amf0.specs.Places.{text_kind, only_text}
-use Rattle.amf0.specs.declared.names.Named.TheVariants as names
-use Rattle.amf0.specs.declared.properties.TextAt.TheVariants as texts
+use Rattle.amf0.specs.Places.{text_place, malformed}
+use Rattle.amf0.specs.declared.names.Named.TheVariants.{End, At}
+use Rattle.amf0.specs.declared.read.Malformed.{Malformed}
+use Rattle.octets.specs.declared.span.Span.{Span}
 use Rattle.amf0.proofs.CutLaws.{clash, Field, field-got, uint-got, steps, past-place, cuts-name}
-use Rattle.amf0.proofs.PlaceLaws.{UintRead, byte_at, place_at}
+use Rattle.amf0.proofs.PlaceLaws.{UintRead, place_at}
+use Rattle.octets.specs.Span.{span}
 
 -- the text t at `at`, with r after it
 pub record TextRead (s : List ℕ) (at : ℕ) (t r : List ℕ) : Type 0 where
@@ -73,23 +75,25 @@ placed s at start len {t} {r} e p n =
     let d : r ≡ drop (start + len) s = rw (b, n) h.rest in
     record { is = e ∙ cc; starts = b; within = omega (arith, h.within); long = rw (← l) (sym n) }
 
-pub text-place : (s : List ℕ) (at start len : ℕ) → texts.At start len ≡ only_text (text_kind s (text_of (drop at s))) → TextPlace s at start len
-unfolding text_kind
-text-place s at start len e = go (text_of (drop at s)) refl e
+pub text-place : (s : List ℕ) (at : ℕ) (p : Span) → Ok p ≡ text_place s (text_of (drop at s)) → TextPlace s at p.start p.len
+unfolding text_place
+text-place s at p e = go (text_of (drop at s)) refl e
   where
-    go : (p : Parse (List ℕ)) → text_of (drop at s) ≡ p → texts.At start len ≡ only_text (text_kind s p) → TextPlace s at start len
+    go : (q : Parse (List ℕ)) → text_of (drop at s) ≡ q → Ok p ≡ text_place s q → TextPlace s at p.start p.len
     go bad q e = clash (cc)
-    go (got t r) q e = placed s at start len q (cc) (cc)
+    go (got t r) q e =
+        let i : p ≡ span (place_of s r - length t) (length t) = cc in
+        placed s at p.start p.len q (ap (λ (x : Span). x.start) i) (ap (λ (x : Span). x.len) i)
 
-pub no_text : (s : List ℕ) (p : Parse (List ℕ)) → texts.Absent ≡ only_text (text_kind s p) → p ≡ bad
-unfolding text_kind
+pub no_text : {d : Malformed} (s : List ℕ) (p : Parse (List ℕ)) → Err d ≡ text_place s p → p ≡ bad
+unfolding text_place
 no_text s bad e = refl
 no_text s (got t r) e = clash (cc)
 
 -- what `text` has to answer
 module _ (s : List ℕ) (at : ℕ) where
-  pub text-bad : text_of (drop at s) ≡ bad → texts.Absent ≡ only_text (text_kind s (text_of (drop at s)))
-  unfolding text_kind
+  pub text-bad : text_of (drop at s) ≡ bad → Err malformed ≡ text_place s (text_of (drop at s))
+  unfolding text_place
   text-bad e = rw e
 
   pub text-none : uint 2 (drop at s) ≡ bad → text_of (drop at s) ≡ bad
@@ -109,8 +113,8 @@ module _ (s : List ℕ) (at : ℕ) where
       pub text-wrong : utf8 (part s (at + 2) n) ≡ false → text_of (drop at s) ≡ bad
       text-wrong t = text-is ∙ rw t
 
-      pub text-good : utf8 (part s (at + 2) n) ≡ true → texts.At (at + 2) n ≡ only_text (text_kind s (text_of (drop at s)))
-      unfolding text_kind
+      pub text-good : utf8 (part s (at + 2) n) ≡ true → Ok (span (at + 2) n) ≡ text_place s (text_of (drop at s))
+      unfolding text_place
       text-good t =
           let l : length (part s (at + 2) n) ≡ n = length-take-le n (drop (at + 2) s) (omega (arith, length-drop (at + 2) s)) in
           let p : place_of s (drop (at + 2 + n) s) - length (part s (at + 2) n) ≡ at + 2 = omega (arith, u.within, length-drop (at + 2 + n) s) in
@@ -135,30 +139,31 @@ pub record NamePlace (s : List ℕ) (at start len : ℕ) : Type 0 where
   pub past : at < start
   pub within : start + len ≤ length s
 
-pub name-place : (s : List ℕ) (at start len : ℕ) → names.At start len ≡ named_of s (name_of (drop at s)) → NamePlace s at start len
+pub name-place : (s : List ℕ) (at : ℕ) (p : Span) → Ok (At p) ≡ named_of s (name_of (drop at s)) → NamePlace s at p.start p.len
 unfolding named_of
-name-place s at start len e = go (name_of (drop at s)) refl e
+name-place s at p e = go (name_of (drop at s)) refl e
   where
-    go : (p : Parse Name) → name_of (drop at s) ≡ p → names.At start len ≡ named_of s p → NamePlace s at start len
+    go : (q : Parse Name) → name_of (drop at s) ≡ q → Ok (At p) ≡ named_of s q → NamePlace s at p.start p.len
     go bad q e = clash (cc)
     go (got last r) q e = clash (cc)
     go (got (named n) r) q e =
         let t = name-text (drop at s) q in
-        let h = placed s at start len t (cc) (cc) in
+        let i : p ≡ span (place_of s r - length n) (length n) = cc in
+        let h = placed s at p.start p.len t (ap (λ (x : Span). x.start) i) (ap (λ (x : Span). x.len) i) in
         record { is = q ∙ cc (h.is, t); past = omega (arith, h.starts); within = h.within }
 
-pub name-last : (s : List ℕ) (at e : ℕ) → names.End e ≡ named_of s (name_of (drop at s)) → (name_of (drop at s) ≡ got last (drop e s)) × (e ≤ length s)
+pub name-last : (s : List ℕ) (at e : ℕ) → Ok (End e) ≡ named_of s (name_of (drop at s)) → (name_of (drop at s) ≡ got last (drop e s)) × (e ≤ length s)
 unfolding named_of
 name-last s at e h = go (name_of (drop at s)) refl h
   where
-    go : (p : Parse Name) → name_of (drop at s) ≡ p → names.End e ≡ named_of s p → (name_of (drop at s) ≡ got last (drop e s)) × (e ≤ length s)
+    go : (p : Parse Name) → name_of (drop at s) ≡ p → Ok (End e) ≡ named_of s p → (name_of (drop at s) ≡ got last (drop e s)) × (e ≤ length s)
     go bad q h = clash (cc)
     go (got last r) q h =
         let i : e ≡ place_of s r = cc in
         (q ∙ ap (got last) (rw i (past-place s at ((cuts-name (drop at s)).cut q))), omega arith)
     go (got (named n) r) q h = clash (cc)
 
-pub no_name : (s : List ℕ) (p : Parse Name) → names.Malformed ≡ named_of s p → p ≡ bad
+pub no_name : {d : Malformed} (s : List ℕ) (p : Parse Name) → Err d ≡ named_of s p → p ≡ bad
 unfolding named_of
 no_name s bad e = refl
 no_name s (got last r) e = clash (cc)
@@ -166,7 +171,7 @@ no_name s (got (named n) r) e = clash (cc)
 
 -- what `name` has to answer
 module _ (s : List ℕ) (at : ℕ) where
-  pub name-bad : name_of (drop at s) ≡ bad → names.Malformed ≡ named_of s (name_of (drop at s))
+  pub name-bad : name_of (drop at s) ≡ bad → Err malformed ≡ named_of s (name_of (drop at s))
   unfolding named_of
   name-bad e = rw e
 
@@ -174,27 +179,28 @@ module _ (s : List ℕ) (at : ℕ) where
   unfolding name_of
   no-text-name e = rw e
 
-  module _ (start len : ℕ) (h : TextPlace s at start len) where
-    pub name-good : 0 < len → names.At start len ≡ named_of s (name_of (drop at s))
+  module _ (p : Span) (h : TextPlace s at p.start p.len) where
+    pub name-good : 0 < p.len → Ok (At p) ≡ named_of s (name_of (drop at s))
     unfolding name_of named_of
     name-good l =
-        let b : eqb (length (part s start len)) 0 ≡ false = ne_eqb (length (part s start len)) 0 (λ e. omega arith) in
-        let p : place_of s (drop (start + len) s) - length (part s start len) ≡ start = omega (arith, length-drop (start + len) s) in
-        rw (h.is, b) (cc h.long)
+        let b : eqb (length (part s p.start p.len)) 0 ≡ false = ne_eqb (length (part s p.start p.len)) 0 (λ e. omega arith) in
+        let q : place_of s (drop (p.start + p.len) s) - length (part s p.start p.len) ≡ p.start = omega (arith, length-drop (p.start + p.len) s) in
+        rw (h.is, b) (rw (q, h.long))
 
-    name-end : len ≤ 0 → name_of (drop at s) ≡ end_mark (drop start s)
+    name-end : p.len ≤ 0 → name_of (drop at s) ≡ end_mark (drop p.start s)
     unfolding name_of
     name-end l =
-        let b : eqb (length (part s start len)) 0 ≡ true = eq-eqb (length (part s start len)) 0 (omega arith) in
-        let e : start + len ≡ start = omega arith in
+        let b : eqb (length (part s p.start p.len)) 0 ≡ true = eq-eqb (length (part s p.start p.len)) 0 (omega arith) in
+        let e : p.start + p.len ≡ p.start = omega arith in
         rw (h.is, b, e)
 
-    pub end_short : len ≤ 0 → length s ≤ start → name_of (drop at s) ≡ bad
-    end_short l o = name-end l ∙ rw (uint-short 1 s start (omega arith))
+    pub end_short : p.len ≤ 0 → uint 1 (drop p.start s) ≡ bad → name_of (drop at s) ≡ bad
+    end_short l e = name-end l ∙ rw e
 
-    pub end-wrong : len ≤ 0 → start < length s → (get_or s start 0 ≡ 0x09 → ⊥) → name_of (drop at s) ≡ bad
-    end-wrong l o e = name-end l ∙ rw (byte_at s start o, ne_eqb _ _ e)
+    module _ (l : p.len ≤ 0) (m : ℕ) (u : UintRead 1 s p.start m) where
+      pub end-wrong : (m ≡ 0x09 → ⊥) → name_of (drop at s) ≡ bad
+      end-wrong e = name-end l ∙ rw (u.is, ne_eqb _ _ e)
 
-    pub end-good : len ≤ 0 → start < length s → get_or s start 0 ≡ 0x09 → names.End (start + 1) ≡ named_of s (name_of (drop at s))
-    unfolding named_of
-    end-good l o e = rw (name-end l, byte_at s start o, e) (ap names.End (sym (place_at s (start + 1) (omega arith))))
+      pub end-good : m ≡ 0x09 → Ok (End (p.start + 1)) ≡ named_of s (name_of (drop at s))
+      unfolding named_of
+      end-good e = rw (name-end l, u.is, e) (ap (λ (k : ℕ). Ok (End k)) (sym (place_at s (p.start + 1) (omega (arith, u.within)))))

@@ -1,25 +1,35 @@
 -- Values read from bytes: the AMF0 paper's sections 1.3 and 2, within document 01's limits.
 -- Assumes nothing.
-use Rattle.std.specs.Prelude.{ℕ, zero, suc, cond, not, List, [], ◌∷◌, eqb, length}
+use Rattle.std.specs.Prelude.{ℕ, zero, suc, cond, not, List, [], ◌∷◌, eqb, length, Result, Ok, Err}
 use Rattle.octets.specs.Parse.{Parse, bad, got, and_then, field}
 use Rattle.octets.specs.BigEndian.{uint}
 use Rattle.octets.specs.Utf8.{utf8}
 use Rattle.amf0.specs.Value.{Value, number, boolean, text, object, null, undefined, strict, Props, end, prop, Values, nil, cons}
 use Rattle.amf0.specs.declared.marker.Marker.{Marker}
-use Rattle.amf0.specs.declared.marker.Marker.TheVariants.{Number, Boolean, Text, Object, Null, Undefined, EcmaArray, StrictArray, Other}
+use Rattle.amf0.specs.declared.marker.Marker.TheVariants.{Number, Boolean, Text, Object, Null, Undefined, EcmaArray, StrictArray}
+use Rattle.amf0.specs.declared.read.Malformed.{Malformed}
 
 -- section 2.1: the markers that document 01 lists
-unfoldable pub marker_of : ℕ → Marker
+unfoldable pub marker_of : ℕ → Result Marker Malformed
 marker_of m =
-    cond (eqb m 0x00) Number
-    (cond (eqb m 0x01) Boolean
-    (cond (eqb m 0x02) Text
-    (cond (eqb m 0x03) Object
-    (cond (eqb m 0x05) Null
-    (cond (eqb m 0x06) Undefined
-    (cond (eqb m 0x08) EcmaArray
-    (cond (eqb m 0x0a) StrictArray
-    Other)))))))
+    cond (eqb m 0x00) (Ok Number)
+    (cond (eqb m 0x01) (Ok Boolean)
+    (cond (eqb m 0x02) (Ok Text)
+    (cond (eqb m 0x03) (Ok Object)
+    (cond (eqb m 0x05) (Ok Null)
+    (cond (eqb m 0x06) (Ok Undefined)
+    (cond (eqb m 0x08) (Ok EcmaArray)
+    (cond (eqb m 0x0a) (Ok StrictArray)
+    (Err (record {})))))))))
+
+-- what a code stands for, with the bytes after it
+abbrev pub coded : {A : Type 0} → Result A Malformed → List ℕ → Parse A
+coded (Ok k) r = got k r
+coded (Err e) r = bad
+
+-- the marker at the front
+unfoldable pub marker : List ℕ → Parse Marker
+marker s = and_then (uint 1 s) (λ m r. coded (marker_of m) r)
 
 -- section 1.3.1, UTF-8: 2 bytes of length, and as many bytes, which are UTF-8
 unfoldable pub text_of : List ℕ → Parse (List ℕ)
@@ -77,12 +87,11 @@ module _ (f : List ℕ → Parse Value) where
   content Undefined s = got undefined s
   content EcmaArray s = and_then (uint 4 s) (λ n r. and_then (object_of r) (λ ps r2. got (object (plainly ps)) r2))
   content StrictArray s = and_then (uint 4 s) (λ n r. and_then (values n r) (λ vs r2. got (strict vs) r2))
-  content Other s = bad
 
 -- a value of at most d levels
 unfoldable pub value : ℕ → List ℕ → Parse Value
 value zero s = bad
-value (suc d) s = and_then (uint 1 s) (λ m r. content (value d) (marker_of m) r)
+value (suc d) s = and_then (marker s) (content (value d))
 
 -- a value of a body: document 01's "a top value has depth 1; depth 9 is refusal 8"
 abbrev pub top_value : List ℕ → Parse Value

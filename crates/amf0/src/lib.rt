@@ -9,10 +9,8 @@ mod read;
 mod write;
 
 pub use kinds::{Kind, kind_at};
-pub use properties::{
-    Found, PropertyAt, TextAt, find, properties_at, property_at, text_at, text_property,
-};
-pub use read::{Counted, Next, count_values, skip};
+pub use properties::{Property, find, properties_at, property_at, text_at, text_property};
+pub use read::{Malformed, count_values, skip};
 pub use write::{
     put_boolean, put_name, put_null, put_number, put_object_end, put_object_start, put_text,
 };

@@ -2,137 +2,114 @@
 ghost use Rattle.std.specs.Prelude.{◌≡◌, ◌≤◌, length, drop};
 ghost use Rattle.octets.specs.BigEndian.{uint};
 ghost use Rattle.amf0.specs.Decode.{text_of, object_of, values, value as value_of, top_value, all_values};
-ghost use Rattle.amf0.specs.Places.{end_of, count_of};
+ghost use Rattle.amf0.specs.Places.{outcome, end_of, count_of};
 
-use super::marker::{Marker, marker_of};
+use super::marker::{Marker, marker_at};
 use super::names::{Named, name, text};
-use super::properties::TextAt;
-use octets::Be32;
+use octets::Span;
 
-// The place after what was read, or that it is malformed.
-#[derive(Clone, Copy)]
-pub enum Next {
-    At(usize),
-    Malformed,
-}
+// Bytes that are no value, or end before it does.
+#[derive(Clone, Copy, Debug, PartialEq, Eq)]
+pub struct Malformed;
 
-// How many values there are, or that one is malformed.
-#[derive(Clone, Copy)]
-pub enum Counted {
-    Is(usize),
-    Malformed,
+// The byte at `at`.
+pub fn byte(s: &[u8], at: usize) -> Result<u8, Malformed>
+    ensures { result ≡ outcome (uint 1 (drop at s.now)) }
+{
+    s.get(at).copied().ok_or(Malformed)
 }
 
 // The place after n bytes.
-fn bytes(s: &[u8], at: usize, n: usize) -> Next
+fn bytes(s: &[u8], at: usize, n: usize) -> Result<usize, Malformed>
     requires { at ≤ length s.now }
     ensures { result ≡ end_of s.now (uint n (drop at s.now)) }
 {
     if s.len() - at < n {
-        return Next::Malformed;
+        return Err(Malformed);
     }
-    Next::At(at + n)
+    Ok(at + n)
 }
 
 // The place after a text.
-fn text_end(s: &[u8], at: usize) -> Next
+fn text_end(s: &[u8], at: usize) -> Result<usize, Malformed>
     ensures { result ≡ end_of s.now (text_of (drop at s.now)) }
 {
-    match text(s, at) {
-        TextAt::At { start, len } => Next::At(start + len),
-        TextAt::Absent => Next::Malformed,
-    }
+    let place = text(s, at)?;
+    Ok(place.start + place.len)
 }
 
 // The place after the value at `at`, of at most `left` levels.
 #[cycle(array_object_value)]
-pub fn value(s: &[u8], at: usize, left: usize) -> Next
+pub fn value(s: &[u8], at: usize, left: usize) -> Result<usize, Malformed>
     ensures { result ≡ end_of s.now (value_of left (drop at s.now)) }
 {
     if left == 0 {
-        return Next::Malformed;
+        return Err(Malformed);
     }
-    if s.len() <= at {
-        return Next::Malformed;
-    }
+    let marker = marker_at(s, at)?;
     let b = at + 1;
-    match marker_of(s[at]) {
+    match marker {
         Marker::Number => bytes(s, b, 8),
         Marker::Boolean => bytes(s, b, 1),
         Marker::Text => text_end(s, b),
         Marker::Object => object(s, b, left - 1),
-        Marker::Null => Next::At(b),
-        Marker::Undefined => Next::At(b),
-        Marker::EcmaArray => match octets::read_be32(s, b) {
-            Be32::Is(_) => object(s, b + 4, left - 1),
-            Be32::Short => Next::Malformed,
-        },
-        Marker::StrictArray => match octets::read_be32(s, b) {
-            Be32::Is(n) => array(s, b + 4, n, left - 1),
-            Be32::Short => Next::Malformed,
-        },
-        Marker::Other => Next::Malformed,
+        Marker::Null | Marker::Undefined => Ok(b),
+        Marker::EcmaArray => {
+            octets::read_be32(s, b).ok_or(Malformed)?;
+            object(s, b + 4, left - 1)
+        }
+        Marker::StrictArray => {
+            let n = octets::read_be32(s, b).ok_or(Malformed)?;
+            array(s, b + 4, n, left - 1)
+        }
     }
 }
 
 // The place after the properties at `at`, with values of at most `left` levels.
 #[cycle(array_object_value)]
-fn object(s: &[u8], at: usize, left: usize) -> Next
+fn object(s: &[u8], at: usize, left: usize) -> Result<usize, Malformed>
     ensures { result ≡ end_of s.now (object_of (value_of left) (drop at s.now)) }
 {
     let mut i = at;
-    while i < s.len() {
-        match name(s, i) {
-            Named::End(e) => return Next::At(e),
-            Named::At { start, len } => {
-                let Next::At(j) = value(s, start + len, left) else {
-                    return Next::Malformed;
-                };
-                i = j;
-            }
-            Named::Malformed => return Next::Malformed,
+    loop {
+        match name(s, i)? {
+            Named::End(e) => return Ok(e),
+            Named::At(Span { start, len }) => i = value(s, start + len, left)?,
         }
     }
-    Next::Malformed
 }
 
 // The place after n values at `at`, of at most `left` levels. Each takes a byte at least, so a count too large ends at the end of s.
+// Inlined, since by a call of its own an array in an array takes half as long again.
 #[cycle(array_object_value)]
-fn array(s: &[u8], at: usize, n: u32, left: usize) -> Next
+#[inline(always)]
+fn array(s: &[u8], at: usize, n: u32, left: usize) -> Result<usize, Malformed>
     requires { at ≤ length s.now }
     ensures { result ≡ end_of s.now (values (value_of left) n (drop at s.now)) }
 {
     let mut i = at;
-    let mut m = n;
-    while 0 < m {
-        let Next::At(j) = value(s, i, left) else {
-            return Next::Malformed;
-        };
-        i = j;
-        m -= 1;
+    for _ in 0..n {
+        i = value(s, i, left)?;
     }
-    Next::At(i)
+    Ok(i)
 }
 
 // The place after the value at `at`.
-pub fn skip(s: &[u8], at: usize) -> Next
+pub fn skip(s: &[u8], at: usize) -> Result<usize, Malformed>
     ensures { result ≡ end_of s.now (top_value (drop at s.now)) }
 {
     value(s, at, 8)
 }
 
 // How many values stand from `at` to the end of s.
-pub fn count_values(s: &[u8], at: usize) -> Counted
+pub fn count_values(s: &[u8], at: usize) -> Result<usize, Malformed>
     ensures { result ≡ count_of (all_values (drop at s.now)) }
 {
     let mut i = at;
     let mut n = 0;
     while i < s.len() {
-        let Next::At(j) = value(s, i, 8) else {
-            return Counted::Malformed;
-        };
-        i = j;
+        i = skip(s, i)?;
         n += 1;
     }
-    Counted::Is(n)
+    Ok(n)
 }

@@ -8,17 +8,12 @@ ghost use Rattle.amf0.specs.Lookup.{properties_at};
 ghost use Rattle.amf0.specs.Places.{count_of, found_of};
 ghost use Rattle.bench.specs.Answers.{count_answer, found_answer};
 
-use amf0::{Counted, Found};
-
 // How many values the body has, or the largest number where one is malformed.
 #[unsafe(no_mangle)]
 pub extern "C" fn bench_values(s: &[u8]) -> usize
     ensures { result ≡ count_answer (count_of (all_values (drop 0 s.now))) }
 {
-    match amf0::count_values(s, 0) {
-        Counted::Is(n) => n,
-        Counted::Malformed => 18446744073709551615,
-    }
+    amf0::count_values(s, 0).unwrap_or(usize::MAX)
 }
 
 // Where the value of the last property `width` of the value at `at` starts, or the largest number where there is none.
@@ -26,9 +21,8 @@ pub extern "C" fn bench_values(s: &[u8]) -> usize
 pub extern "C" fn bench_find(s: &[u8], at: usize) -> usize
     ensures { result ≡ found_answer (found_of s.now (ascii "width") (properties_at (drop at s.now))) }
 {
-    match amf0::find(s, at, b"width") {
-        Found::At(e) => e,
-        Found::Absent => 18446744073709551615,
-        Found::Malformed => 18446744073709551615,
-    }
+    amf0::find(s, at, b"width")
+        .ok()
+        .flatten()
+        .unwrap_or(usize::MAX)
 }

@@ -1,25 +1,23 @@
--- From what was taken at a place of s to the value that is read there: a text, a Number, or any. And where a text lies.
+-- From what was read at a place of s to the value that is read there: a text, a Number, or any. And where a text lies.
 -- Assumes nothing.
 use Prim.Native.Nat.{ℕ, suc, ◌+◌, ◌-◌, ◌≤◌}
 use native.Mathlib.Omega.{arith}
 use mathlib.Core.Path.{◌≡◌, refl, sym, ap, ◌∙◌}
 use mathlib.Core.List.{List}
 use lib.ListN.{length, drop, length-drop, length-take}
+use Rattle.std.specs.Prelude.{Option, Some, None, Result, Ok, Err}
 use Rattle.octets.specs.Parse.{bad, got, and_then, place_of}
 use Rattle.octets.specs.Compare.{part}
 use Rattle.amf0.specs.Value.{Value, number, boolean, text, object, null, undefined, strict}
 use Rattle.amf0.specs.Decode.{value, top_value}
-use Rattle.amf0.specs.Places.{kind_of, only_text}
-use Rattle.amf0.specs.declared.properties.TextAt.{TextAt}
-use Rattle.amf0.specs.declared.properties.TextAt.TheVariants as text_at
+use Rattle.amf0.specs.Places.{kind_of, only_text, only_number, text_told}
+use Rattle.octets.specs.declared.span.Span.{Span}
 use Rattle.amf0.proofs.CutLaws.{clash}
 use Rattle.amf0.proofs.KindLaws.{text-lies as text-part}
-use Rattle.reader.specs.declared.Taken.{Taken}
-use Rattle.reader.proofs.TakenLaws.{TakenAt, none, one}
+use Rattle.amf0.specs.declared.kinds.Kind.{Kind}
+use Rattle.amf0.specs.declared.read.Malformed.{Malformed}
+use Rattle.reader.proofs.TakenLaws.{ReadAt, none, one}
 use Rattle.messages.specs.Incoming.{text_only, number_only}
-use Rattle.messages.specs.Steps.{only_number}
-use Rattle.messages.specs.declared.kind.OptionU64.{OptionU64}
-use Rattle.messages.specs.declared.kind.OptionU64.TheVariants as u64
 
 -- the text t lies in s from `start` on
 pub record Lies (s : List ℕ) (start : ℕ) (t : List ℕ) : Type 0 where
@@ -46,21 +44,26 @@ pub record TextRead (s : List ℕ) (at n start len : ℕ) : Type 0 where
   pub long : length bytes ≡ len
   pub is : part s start len ≡ bytes
 
--- what `text_of` and `number_of` say of what was taken there
-abbrev pub TextThere : List ℕ → ℕ → ℕ → TextAt → Type 0
-TextThere s at n text_at.Absent = and_then (top_value (drop at s)) text_only ≡ bad
-TextThere s at n (text_at.At start len) = TextRead s at n start len
+-- the Number that a kind tells, if there is a kind
+abbrev pub number_told : Result Kind Malformed → Option ℕ
+number_told (Ok k) = only_number k
+number_told (Err d) = None
 
-abbrev pub NumberThere : List ℕ → ℕ → ℕ → OptionU64 → Type 0
-NumberThere s at n u64.None = and_then (top_value (drop at s)) number_only ≡ bad
-NumberThere s at n (u64.Some x) = ValueRead s at n (number x)
+-- what the text and the Number of a kind say of what was read there
+abbrev pub TextThere : List ℕ → ℕ → ℕ → Option Span → Type 0
+TextThere s at n None = and_then (top_value (drop at s)) text_only ≡ bad
+TextThere s at n (Some p) = TextRead s at n p.start p.len
+
+abbrev pub NumberThere : List ℕ → ℕ → ℕ → Option ℕ → Type 0
+NumberThere s at n None = and_then (top_value (drop at s)) number_only ≡ bad
+NumberThere s at n (Some x) = ValueRead s at n (number x)
 
 module _ (s : List ℕ) (at : ℕ) where
   module _ (r : List ℕ) (i : r ≡ drop (place_of s r) s) where
     is_read : (v : Value) → top_value (drop at s) ≡ got v r → ValueRead s at (place_of s r) v
     is_read v e = record { read = e ∙ ap (got v) i; place = ap (place_of s) (sym i) }
 
-    text-of : (v : Value) → top_value (drop at s) ≡ got v r → (o : TextAt) → o ≡ only_text (kind_of s v r) → TextThere s at (place_of s r) o
+    text-of : (v : Value) → top_value (drop at s) ≡ got v r → (o : Option Span) → o ≡ only_text (kind_of s v r) → TextThere s at (place_of s r) o
     unfolding kind_of text_only
     text-of (number n) e o q = rw q (rw e)
     text-of (boolean b) e o q = rw q (rw e)
@@ -78,7 +81,7 @@ module _ (s : List ℕ) (at : ℕ) where
     text-of undefined e o q = rw q (rw e)
     text-of (strict vs) e o q = rw q (rw e)
 
-    number_of : (v : Value) → top_value (drop at s) ≡ got v r → (o : OptionU64) → o ≡ only_number (kind_of s v r) → NumberThere s at (place_of s r) o
+    number_of : (v : Value) → top_value (drop at s) ≡ got v r → (o : Option ℕ) → o ≡ only_number (kind_of s v r) → NumberThere s at (place_of s r) o
     unfolding kind_of number_only
     number_of (number n) e o q = rw q (is_read (number n) e)
     number_of (boolean b) e o q = rw q (rw e)
@@ -88,21 +91,21 @@ module _ (s : List ℕ) (at : ℕ) where
     number_of undefined e o q = rw q (rw e)
     number_of (strict vs) e o q = rw q (rw e)
 
-  pub text-there : {k : Taken} → TakenAt s at k → (o : TextAt) → o ≡ only_text k.kind → TextThere s at k.next o
+  pub text-there : {k : Result Kind Malformed} {n : ℕ} → ReadAt s at k n → (o : Option Span) → o ≡ text_told k → TextThere s at n o
   text-there (none e) o q = rw q (rw e)
   text-there (one v r e i l) o q = text-of r i v e o q
 
-  pub number-there : {k : Taken} → TakenAt s at k → (o : OptionU64) → o ≡ only_number k.kind → NumberThere s at k.next o
+  pub number-there : {k : Result Kind Malformed} {n : ℕ} → ReadAt s at k n → (o : Option ℕ) → o ≡ number_told k → NumberThere s at n o
   number-there (none e) o q = rw q (rw e)
   number-there (one v r e i l) o q = number_of r i v e o q
 
-  -- the place stays where there is no value, and moves past a value
-  pub none-there : {k : Taken} → TakenAt s at k → k.next ≡ at → top_value (drop at s) ≡ bad
+  -- an error tells that there is no value, a kind that there is one
+  pub none-there : {k : Result Kind Malformed} {d : Malformed} {n : ℕ} → ReadAt s at k n → k ≡ Err d → top_value (drop at s) ≡ bad
   none-there (none e) q = e
-  none-there (one v r e i l) q = absurd (omega arith)
+  none-there (one v r e i l) q = clash (cc)
 
-  pub value_there : {k : Taken} → TakenAt s at k → (k.next ≡ at → ⊥) → (v : Value) × ValueRead s at k.next v
-  value_there (none e) q = absurd (q refl)
+  pub value_there : {k : Result Kind Malformed} {m : Kind} {n : ℕ} → ReadAt s at k n → k ≡ Ok m → (v : Value) × ValueRead s at n v
+  value_there (none e) q = clash (cc)
   value_there (one v r e i l) q = (v, is_read r i v e)
 
 -- a value that is read as a text is that text, and so with a Number

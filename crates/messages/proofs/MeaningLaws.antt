@@ -6,8 +6,9 @@ use native.Mathlib.Omega.{arith}
 use mathlib.Core.Path.{◌≡◌, refl, sym, ap, ◌∙◌}
 use mathlib.Core.Bool.{Bool, true, false, cond}
 use mathlib.Core.List.{List, []}
-use mathlib.Core.Option.{Option, none, some, get_or}
 use lib.ListN.{length, drop}
+use Rattle.std.specs.Prelude.{Option, Some, None, Ok}
+use Rattle.std.specs.Option.{unwrap_or}
 use Rattle.octets.specs.Parse.{got, and_then, place_of}
 use Rattle.octets.specs.Compare.{ascii, same}
 use Rattle.octets.proofs.CompareLaws.{same-eq, same-ne}
@@ -15,8 +16,7 @@ use Rattle.amf0.specs.Value.{Value, number, boolean, text, object, null, undefin
 use Rattle.amf0.specs.Decode.{top_value, all_values}
 use Rattle.amf0.specs.Lookup.{properties_at}
 use Rattle.amf0.specs.Places.{text_of_property, stretch}
-use Rattle.amf0.specs.declared.properties.TextAt.{TextAt}
-use Rattle.amf0.specs.declared.properties.TextAt.TheVariants as text_at
+use Rattle.octets.specs.declared.span.Span.{Span}
 use Rattle.amf0.proofs.CutLaws.{clash, past-past, past-place, steps, wrapped, cuts-value}
 use Rattle.amf0.proofs.FindLaws.{properties-over}
 use Rattle.messages.specs.Incoming.{command, values, Command, Data, text_only, number_only, command_of, data_of, rest_of, decode}
@@ -33,6 +33,7 @@ use Rattle.messages.proofs.ValuesLaws.{Ended, at-end}
 use Rattle.messages.proofs.ValuesLaws as values-laws
 use Rattle.messages.proofs.FieldLaws.{TextStands, no_text, text-at, text-stands}
 use Rattle.messages.proofs.DecodeLaws.{decode-cases}
+use Rattle.octets.specs.Span.{span}
 
 -- the parts of a command, which are last parts of s, and what is read from each
 pub record CommandStands (s : List ℕ) (c : Command) : Type 0 where
@@ -112,23 +113,23 @@ module _ (s : List ℕ) where
       (at-end top_value (length c.from_args) c.from_args h.args_read).ended
 
   -- what a notice's code says: none where there is no such text, a Start where it is that text and only there, else the text's place
-  pub data CodeSays : Option (List ℕ) → OnStatus → Type 0 where
-    no_code : CodeSays none status.Invalid
-    play-start : CodeSays (some (ascii "NetStream.Play.Start")) status.PlayStart
-    publish-start : CodeSays (some (ascii "NetStream.Publish.Start")) status.PublishStart
+  pub data CodeSays : Option (List ℕ) → Option OnStatus → Type 0 where
+    no_code : CodeSays None None
+    play-start : CodeSays (Some (ascii "NetStream.Play.Start")) (Some status.PlayStart)
+    publish-start : CodeSays (Some (ascii "NetStream.Publish.Start")) (Some status.PublishStart)
     other-code : {start : ℕ} {t : List ℕ} → Lies s start t → (t ≡ ascii "NetStream.Play.Start" → ⊥) → (t ≡ ascii "NetStream.Publish.Start" → ⊥)
-        → CodeSays (some t) (status.Other start (length t))
+        → CodeSays (Some t) (Some (status.Other (span start (length t))))
 
-  code-of-text : (o : Option (List ℕ)) (k : TextAt) → TextStands s o k → CodeSays o (code_of s k)
+  code-of-text : (o : Option (List ℕ)) (k : Option Span) → TextStands s o k → CodeSays o (code_of s k)
   unfolding code_of code_is
-  code-of-text (some t) text_at.Absent x3 = elim x3 [ ]
-  code-of-text none (text_at.At start n) x'' = elim x'' [ ]
-  code-of-text none text_at.Absent no_text = no_code
-  code-of-text (some t) (text_at.At start n) (text-at l) =
+  code-of-text (Some t) None x3 = elim x3 [ ]
+  code-of-text None (Some p) x'' = elim x'' [ ]
+  code-of-text None None no_text = no_code
+  code-of-text (Some t) (Some p) (text-at l) =
       rw l.is (go (same t (ascii "NetStream.Play.Start")) refl (same t (ascii "NetStream.Publish.Start")) refl)
     where
       go : (a : Bool) → same t (ascii "NetStream.Play.Start") ≡ a → (b : Bool) → same t (ascii "NetStream.Publish.Start") ≡ b
-          → CodeSays (some t) (cond a status.PlayStart (cond b status.PublishStart (status.Other start (length t))))
+          → CodeSays (Some t) (Some (cond a status.PlayStart (cond b status.PublishStart (status.Other p))))
       go true e b f = rw (same-eq t _ e) play-start
       go false e true f = rw (same-eq t _ f) publish-start
       go false e false f = other-code l (same-ne t _ e) (same-ne t _ f)
@@ -137,15 +138,15 @@ module _ (s : List ℕ) where
   code-says c h = code-of-text _ _ (text-in (ascii "code") c h)
 
   -- the stretch of the body that a description is
-  text-stretch : (o : Option (List ℕ)) (k : TextAt) → TextStands s o k → stretch s k ≡ get_or o []
+  text-stretch : (o : Option (List ℕ)) (k : Option Span) → TextStands s o k → stretch s k ≡ unwrap_or o []
   unfolding stretch
-  text-stretch (some t) text_at.Absent x3 = elim x3 [ ]
-  text-stretch none (text_at.At start n) x'' = elim x'' [ ]
-  text-stretch none text_at.Absent no_text = refl
-  text-stretch (some t) (text_at.At start n) (text-at l) = l.is
+  text-stretch (Some t) None x3 = elim x3 [ ]
+  text-stretch None (Some p) x'' = elim x'' [ ]
+  text-stretch None None no_text = refl
+  text-stretch (Some t) (Some p) (text-at l) = l.is
 
   pub description-is : (c : Command) → CommandStands s c
-      → stretch s (text_of_property s (ascii "description") (properties_at c.from_args)) ≡ get_or (text_in (ascii "description") c.args) []
+      → stretch s (text_of_property s (ascii "description") (properties_at c.from_args)) ≡ unwrap_or (text_in (ascii "description") c.args) []
   description-is c h = text-stretch _ _ (text-in (ascii "description") c h)
 
 -- Where a data message is told to be metadata, an object is read from the place that is told.
@@ -164,17 +165,17 @@ is-object null e = clash (cc)
 is-object undefined e = clash (cc)
 is-object (strict vs) e = clash (cc)
 
-object-first : (x : List ℕ) (vs : Values) → Ended top_value x vs → first_of vs ≡ argument.Object
+object-first : (x : List ℕ) (vs : Values) → Ended top_value x vs → first_of vs ≡ Some argument.Object
     → (ps : Props) × ((r : List ℕ) × (top_value x ≡ got (object ps) r))
 unfolding first_of
 object-first x nil (values-laws.none l) e = clash (cc)
-object-first x (cons v vs) (values-laws.some {r = r} k g h) e = let i = is-object v e in (i.0, (r, g ∙ ap (λ (w : Value). got w r) i.1))
+object-first x (cons v vs) (values-laws.some {r = r} k g h) e = let i = is-object v (let z : argument_of v ≡ argument.Object = cc in z) in (i.0, (r, g ∙ ap (λ (w : Value). got w r) i.1))
 
-if-object : (q p : ℕ) (a : Argument) → if_object q a ≡ said.OnMetaData p → (a ≡ argument.Object) × (q ≡ p)
-if-object q p argument.Object e = (refl, cc)
-if-object q p argument.Absent e = clash (cc)
-if-object q p (argument.Number n) e = clash (cc)
-if-object q p argument.Other e = clash (cc)
+if-object : (q p : ℕ) (a : Option Argument) → if_object q a ≡ said.OnMetaData p → (a ≡ Some argument.Object) × (q ≡ p)
+if-object q p (Some argument.Object) e = (refl, cc)
+if-object q p (Some (argument.Number n)) e = clash (cc)
+if-object q p (Some argument.Other) e = clash (cc)
+if-object q p None e = clash (cc)
 
 module _ (s : List ℕ) (p : ℕ) where
   second-stands : (vs : Values) → Ended top_value s vs → data_at (place_of s (rest_of (top_value s))) vs ≡ said.OnMetaData p → MetadataStands s p
@@ -190,16 +191,16 @@ module _ (s : List ℕ) (p : ℕ) where
           record { props = o.0; rest = o.1.0; read = ap top_value q ∙ o.1.1 }
       go false e = clash (cc)
 
-  data-stands : (d : Data) → data_of s ≡ got d [] → placed s (values d) ≡ message.Amf0Data (said.OnMetaData p) → MetadataStands s p
+  data-stands : (d : Data) → data_of s ≡ got d [] → placed s (values d) ≡ Ok (message.Amf0Data (said.OnMetaData p)) → MetadataStands s p
   unfolding data_of placed
   data-stands d q e =
       let i = wrapped (all_values s) (λ vs. record { values = vs; after_first = rest_of (top_value s) }) q in
       second-stands i.what (at-end top_value (length s) s i.is).ended (let z = rw (← i.means) at e in cc)
 
-  pub metadata-stands : (t : ℕ) → placed s (decode t s) ≡ message.Amf0Data (said.OnMetaData p) → MetadataStands s p
+  pub metadata-stands : (t : ℕ) → placed s (decode t s) ≡ Ok (message.Amf0Data (said.OnMetaData p)) → MetadataStands s p
   unfolding placed
   metadata-stands t =
-      decode-cases (λ i. placed s i ≡ message.Amf0Data (said.OnMetaData p) → MetadataStands s p) t s
+      decode-cases (λ i. placed s i ≡ Ok (message.Amf0Data (said.OnMetaData p)) → MetadataStands s p) t s
       (record {
         malformeds = λ e. clash (cc);
         chunk_sizes = λ n e. clash (cc);

@@ -8,20 +8,19 @@ use mathlib.Core.List.{List, [], ◌∷◌}
 use lib.Dec.{eqb}
 use lib.ListN.{length, drop}
 use borrow.Author.Tests.{eqb-true, ne_eqb}
+use Rattle.std.specs.Prelude.{Some, Result, Ok, Err}
 use Rattle.octets.specs.Parse.{Parse, bad, got, and_then}
-use Rattle.octets.specs.BigEndian.{uint}
 use Rattle.amf0.specs.Value.{Value, number, boolean, text, object, null, undefined, strict, Values, nil, cons}
-use Rattle.amf0.specs.Decode.{top_value, to_end, all_values}
+use Rattle.amf0.specs.Decode.{marker, top_value, to_end, all_values}
 use Rattle.amf0.specs.Places.{kind_at, kind_of, count_of}
-use Rattle.amf0.specs.declared.read.Counted.{Counted}
-use Rattle.amf0.specs.declared.read.Counted.TheVariants as counted
-use Rattle.amf0.proofs.CutLaws.{clash, steps, wrapped, past-length, cuts-value, cuts_short, cuts-uint}
+use Rattle.amf0.specs.declared.read.Malformed.{Malformed}
+use Rattle.amf0.proofs.CutLaws.{clash, steps, wrapped, past-length, cuts-value, cuts_short, cuts-marker}
 use Rattle.amf0.proofs.Fuel.{all-is}
 use Rattle.amf0.proofs.KindLaws.{told}
-use Rattle.reader.specs.declared.Taken.{Taken}
-use Rattle.reader.proofs.TakenLaws.{TakenAt}
+use Rattle.reader.proofs.TakenLaws.{ReadAt}
 use Rattle.reader.proofs.TakenLaws as taken
-use Rattle.messages.specs.Steps.{argument_kind}
+use Rattle.messages.specs.Steps.{argument_kind, argument_told}
+use Rattle.amf0.specs.declared.kinds.Kind.{Kind}
 use Rattle.messages.specs.Places.{argument_of, first_of}
 
 -- the values vs that f read from s to its end
@@ -73,20 +72,21 @@ argument-kind s null r = refl
 argument-kind s undefined r = refl
 argument-kind s (strict vs) r = refl
 
-pub first_told : (s x : List ℕ) (vs : Values) → Ended top_value x vs → argument_kind (kind_at s x) ≡ first_of vs
+pub first_told : (s x : List ℕ) (vs : Values) → Ended top_value x vs → argument_told (kind_at s x) ≡ first_of vs
 unfolding kind_at first_of
-first_told s x nil (none e) = rw (cuts_short (uint 1 x) (cuts-uint 1 x) (omega arith))
-first_told s x (cons v vs) (some k e g) = ap argument_kind (told 7 s x e) ∙ argument-kind s v _
+first_told s x nil (none e) = rw (cuts_short (marker x) (cuts-marker x) (omega arith))
+first_told s x (cons v vs) (some k e g) = ap argument_told (told 7 s x e) ∙ ap Some (argument-kind s v _)
 
--- and so it is told by what was taken there
-pub first_taken : (s : List ℕ) (at : ℕ) {k : Taken} → TakenAt s at k → (vs : Values) → Ended top_value (drop at s) vs → argument_kind k.kind ≡ first_of vs
+-- and so it is told by what was read there
+pub first_taken : (s : List ℕ) (at : ℕ) {k : Result Kind Malformed} {n : ℕ} → ReadAt s at k n → (vs : Values) → Ended top_value (drop at s) vs
+    → argument_told k ≡ first_of vs
 unfolding first_of
 first_taken s at (taken.none e) nil (none l) = refl
 first_taken s at (taken.none e) (cons v vs) (some k g h) = clash (cc)
 first_taken s at (taken.one w r e i l) nil (none z) = let b = cuts_short (top_value (drop at s)) (cuts-value 8 (drop at s)) (omega arith) in clash (cc)
 first_taken s at (taken.one w r e i l) (cons v vs) (some {r = x} k g h) =
     let p : w ≡ v = cc in
-    argument-kind s w r ∙ ap argument_of p
+    ap Some (argument-kind s w r ∙ ap argument_of p)
 
 -- what `count_values` says of the values there
 pub record AllRead (x : List ℕ) : Type 0 where
@@ -94,11 +94,11 @@ pub record AllRead (x : List ℕ) : Type 0 where
   pub read : all_values x ≡ got all []
   pub ended : Ended top_value x all
 
-abbrev pub AllThere : List ℕ → Counted → Type 0
-AllThere x counted.Malformed = all_values x ≡ bad
-AllThere x (counted.Is n) = AllRead x
+abbrev pub AllThere : List ℕ → Result ℕ Malformed → Type 0
+AllThere x (Err e) = all_values x ≡ bad
+AllThere x (Ok n) = AllRead x
 
-pub all_there : (x : List ℕ) (o : Counted) → o ≡ count_of (all_values x) → AllThere x o
+pub all_there : (x : List ℕ) (o : Result ℕ Malformed) → o ≡ count_of (all_values x) → AllThere x o
 unfolding count_of
 all_there x o e = rw e (go (all_values x) refl)
   where
@@ -113,10 +113,11 @@ module _ (x : List ℕ) {v : Value} {r : List ℕ} (e : top_value x ≡ got v r)
       let l = past-length ((cuts-value 8 x).cut e) in
       all-is top_value (cuts-value 8) x ∙ rw (ne_eqb (length x) 0 (λ z. omega (arith, l)), e)
 
-  all_after : (o : Counted) → AllThere r o → AllThere x o
-  all_after counted.Malformed a = before-is ∙ rw a
-  all_after (counted.Is n) a = record { all = cons v a.all; read = before-is ∙ rw a.read; ended = some (length r) e a.read }
+  all_after : (o : Result ℕ Malformed) → AllThere r o → AllThere x o
+  all_after (Err e) a = before-is ∙ rw a
+  all_after (Ok n) a = record { all = cons v a.all; read = before-is ∙ rw a.read; ended = some (length r) e a.read }
 
-pub all-before : (s : List ℕ) (at : ℕ) {k : Taken} → TakenAt s at k → (o : Counted) → AllThere (drop k.next s) o → AllThere (drop at s) o
+pub all-before : (s : List ℕ) (at : ℕ) {k : Result Kind Malformed} {n : ℕ} → ReadAt s at k n → (o : Result ℕ Malformed) → AllThere (drop n s) o
+    → AllThere (drop at s) o
 all-before s at (taken.none e) o a = a
 all-before s at (taken.one v r e i l) o a = all_after (drop at s) e o (rw i a)

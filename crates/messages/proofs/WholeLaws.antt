@@ -9,11 +9,13 @@ use lib.Dec.{eqb}
 use lib.ListN.{length, drop, length-drop}
 use lib.Seq.{take_all}
 use borrow.Author.Tests.{eqb-true, eqb-false, le-leb}
+use Rattle.std.specs.Prelude.{Result, Ok, Err}
 use Rattle.octets.specs.Parse.{Parse, bad, got, and_then, field}
 use Rattle.octets.specs.BigEndian.{be, uint}
-use Rattle.octets.specs.declared.big_endian.Be32.TheVariants as be32
 use Rattle.amf0.proofs.CutLaws.{clash, uint-got}
 use Rattle.messages.specs.Incoming.{Incoming, malformed, whole}
+use Rattle.amf0.specs.Places as amf0
+use Rattle.amf0.specs.declared.read.Malformed.{Malformed}
 
 module _ {A : Type 0} (say : A → Incoming) where
   pub whole-all : (a : A) (r : List ℕ) → length r ≡ 0 → whole say (got a r) ≡ say a
@@ -48,17 +50,20 @@ whole-uint say n s = go (eqb (length s) n) refl
         eqb-false (length s) n t (omega (arith, f.fits, ap length f.rest, length-drop n s)))
 
 -- what `last_word` answers of the bytes x
+abbrev pub word : List ℕ → Result ℕ Malformed
+word x = cond (eqb (length x) 4) (Ok (be x)) (Err amf0.malformed)
+
 module _ (say : ℕ → Incoming) (x : List ℕ) where
-  pub word-is : {n : ℕ} → be32.Is n ≡ cond (eqb (length x) 4) (be32.Is (be x)) be32.Short → say n ≡ whole say (uint 4 x)
+  pub word-is : {n : ℕ} → Ok n ≡ word x → say n ≡ whole say (uint 4 x)
   word-is {n} e = rw (whole-uint say 4 x) (go (eqb (length x) 4) e)
     where
-      go : (b : Bool) → be32.Is n ≡ cond b (be32.Is (be x)) be32.Short → say n ≡ cond b (say (be x)) malformed
+      go : (b : Bool) → ◌≡◌ {A = Result ℕ Malformed} (Ok n) (cond b (Ok (be x)) (Err amf0.malformed)) → say n ≡ cond b (say (be x)) malformed
       go true e = ap say (let q : n ≡ be x = cc in q)
       go false e = clash (cc)
 
-  pub word_short : be32.Short ≡ cond (eqb (length x) 4) (be32.Is (be x)) be32.Short → malformed ≡ whole say (uint 4 x)
-  word_short e = rw (whole-uint say 4 x) (go (eqb (length x) 4) e)
+  pub word_short : {d : Malformed} → Err d ≡ word x → malformed ≡ whole say (uint 4 x)
+  word_short {d} e = rw (whole-uint say 4 x) (go (eqb (length x) 4) e)
     where
-      go : (b : Bool) → be32.Short ≡ cond b (be32.Is (be x)) be32.Short → malformed ≡ cond b (say (be x)) malformed
+      go : (b : Bool) → ◌≡◌ {A = Result ℕ Malformed} (Err d) (cond b (Ok (be x)) (Err amf0.malformed)) → malformed ≡ cond b (say (be x)) malformed
       go true e = clash (cc)
       go false e = refl

@@ -4,14 +4,13 @@ use Rattle.std.specs.Prelude.{ℕ, cond, List, [], ◌∷◌, eqb}
 use Rattle.octets.specs.Parse.{Parse, bad, got, and_then}
 use Rattle.octets.specs.BigEndian.{uint}
 use Rattle.amf0.specs.Value.{Value, number, boolean, text, object, null, undefined, strict, Values}
-use Rattle.amf0.specs.Decode.{top_value, all_values}
+use Rattle.amf0.specs.Decode.{coded, top_value, all_values}
 use Rattle.messages.specs.declared.ids.RtmpTimestamp.{RtmpTimestamp}
 use Rattle.messages.specs.declared.ids.StreamNumber.{StreamNumber}
 use Rattle.messages.specs.declared.rtmp_message.PeerBandwidthLimitType.{PeerBandwidthLimitType}
-use Rattle.messages.specs.declared.rtmp_message.PeerBandwidthLimitType.TheVariants.{Hard, Soft, Dynamic}
 use Rattle.messages.specs.declared.rtmp_message.UserControlEvent.{UserControlEvent}
 use Rattle.messages.specs.declared.rtmp_message.UserControlEvent.TheVariants.{StreamBegin, StreamEof, StreamDry, SetBufferLength, StreamIsRecorded, PingRequest, PingResponse}
-use Rattle.messages.specs.Numbers.{type_number, event_number, limit_number}
+use Rattle.messages.specs.Numbers.{type_number, event_number, limit_type}
 use Rattle.messages.specs.Numbers as type
 
 -- a command: its name, its Number's pattern, its object and its arguments; and the bytes after its name, from its object and from its arguments on
@@ -45,12 +44,8 @@ whole say (got a []) = say a
 whole say (got a (x ∷ r)) = malformed
 
 -- section 5.4.5: the limit type after the window size
-unfoldable pub limit_of : ℕ → List ℕ → Parse PeerBandwidthLimitType
-limit_of l r =
-    cond (eqb l (limit_number Hard)) (got Hard r)
-    (cond (eqb l (limit_number Soft)) (got Soft r)
-    (cond (eqb l (limit_number Dynamic)) (got Dynamic r)
-    bad))
+abbrev pub limit_of : ℕ → List ℕ → Parse PeerBandwidthLimitType
+limit_of l r = coded (limit_type l) r
 
 pub record Bandwidth : Type 0 where
   pub size : ℕ

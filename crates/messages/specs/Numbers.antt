@@ -1,6 +1,8 @@
 -- The numbers that stand in a message for each case: RTMP 1.0 sections 5.4, 6.2 and 7.1, and document 01, "Bodies".
 -- Assumes nothing.
-use Rattle.std.specs.Prelude.{ℕ}
+use Rattle.std.specs.Prelude.{ℕ, cond, eqb, Result, Ok, Err}
+use Rattle.amf0.specs.Places.{malformed}
+use Rattle.amf0.specs.declared.read.Malformed.{Malformed}
 use Rattle.messages.specs.declared.rtmp_message.PeerBandwidthLimitType.{PeerBandwidthLimitType}
 use Rattle.messages.specs.declared.rtmp_message.PeerBandwidthLimitType.TheVariants.{Hard, Soft, Dynamic}
 use Rattle.messages.specs.declared.rtmp_message.UserControlEvent.{UserControlEvent}
@@ -41,3 +43,10 @@ abbrev pub limit_number : PeerBandwidthLimitType → ℕ
 limit_number Hard = 0
 limit_number Soft = 1
 limit_number Dynamic = 2
+
+unfoldable pub limit_type : ℕ → Result PeerBandwidthLimitType Malformed
+limit_type n =
+    cond (eqb n (limit_number Hard)) (Ok Hard)
+    (cond (eqb n (limit_number Soft)) (Ok Soft)
+    (cond (eqb n (limit_number Dynamic)) (Ok Dynamic)
+    (Err malformed)))

@@ -1,6 +1,9 @@
 -- What a body says, with the places in the body s of its texts and values.
 -- Assumes nothing.
-use Rattle.std.specs.Prelude.{ℕ, ◌-◌, Bool, false, cond, List, length}
+use Rattle.std.specs.Prelude.{ℕ, ◌-◌, Bool, false, cond, List, length, Option, Some, None, Result, Ok, Err}
+use Rattle.octets.specs.Span.{span}
+use Rattle.amf0.specs.Places as amf0
+use Rattle.amf0.specs.declared.read.Malformed.{Malformed}
 use Rattle.octets.specs.Parse.{place_of}
 use Rattle.octets.specs.Compare.{ascii, same}
 use Rattle.amf0.specs.Value.{Value, number, boolean, text, object, null, undefined, strict, Values, nil, cons}
@@ -32,16 +35,15 @@ argument_of null = argument.Other
 argument_of undefined = argument.Other
 argument_of (strict vs) = argument.Other
 
-unfoldable pub first_of : Values → Argument
-first_of nil = argument.Absent
-first_of (cons v vs) = argument_of v
+unfoldable pub first_of : Values → Option Argument
+first_of nil = None
+first_of (cons v vs) = Some (argument_of v)
 
 abbrev pub command_at : List ℕ → Command → Placed
 command_at s c =
     record {
       name = name_of c.name;
-      start = place_of s c.after_name - length c.name;
-      len = length c.name;
+      name_at = span (place_of s c.after_name - length c.name) (length c.name);
       number = c.number;
       object = place_of s c.from_object;
       args = place_of s c.from_args;
@@ -49,11 +51,11 @@ command_at s c =
     }
 
 -- `onMetaData` and then an object, which starts at p
-abbrev pub if_object : ℕ → Argument → DataMessage
-if_object p argument.Object = said.OnMetaData p
-if_object p argument.Absent = said.Other
-if_object p (argument.Number n) = said.Other
-if_object p argument.Other = said.Other
+abbrev pub if_object : ℕ → Option Argument → DataMessage
+if_object p (Some argument.Object) = said.OnMetaData p
+if_object p (Some (argument.Number n)) = said.Other
+if_object p (Some argument.Other) = said.Other
+if_object p None = said.Other
 
 abbrev pub is_on_meta_data : Value → Bool
 is_on_meta_data (text t) = same t (ascii "onMetaData")
@@ -68,16 +70,16 @@ unfoldable pub data_at : ℕ → Values → DataMessage
 data_at p nil = said.Other
 data_at p (cons v vs) = cond (is_on_meta_data v) (if_object p (first_of vs)) said.Other
 
-unfoldable pub placed : List ℕ → Incoming → RtmpMessage
-placed s malformed = message.Malformed
-placed s (set_chunk_size n) = message.SetChunkSize n
-placed s (abort n) = message.Abort n
-placed s (acknowledgement n) = message.Acknowledgement n
-placed s (window_size n) = message.WindowAcknowledgement n
-placed s (peer_bandwidth n l) = message.SetPeerBandwidth n l
-placed s (user_control e) = message.UserControl e
-placed s (command c) = message.Amf0Command (command_at s c)
-placed s (values d) = message.Amf0Data (data_at (place_of s d.after_first) d.values)
-placed s audio = message.AudioData
-placed s video = message.VideoData
-placed s unknown = message.Unknown
+unfoldable pub placed : List ℕ → Incoming → Result RtmpMessage Malformed
+placed s malformed = Err amf0.malformed
+placed s (set_chunk_size n) = Ok (message.SetChunkSize n)
+placed s (abort n) = Ok (message.Abort n)
+placed s (acknowledgement n) = Ok (message.Acknowledgement n)
+placed s (window_size n) = Ok (message.WindowAcknowledgement n)
+placed s (peer_bandwidth n l) = Ok (message.SetPeerBandwidth n l)
+placed s (user_control e) = Ok (message.UserControl e)
+placed s (command c) = Ok (message.Amf0Command (command_at s c))
+placed s (values d) = Ok (message.Amf0Data (data_at (place_of s d.after_first) d.values))
+placed s audio = Ok message.AudioData
+placed s video = Ok message.VideoData
+placed s unknown = Ok message.Unknown

@@ -23,4 +23,4 @@ pub use rtmp_message::{
     Argument, Command, CommandName, DataMessage, PeerBandwidthLimitType, RtmpMessage,
     UserControlEvent,
 };
-pub use stream_metadata::{OptionBool, OptionF32, OptionU32, StreamMetadata, read_metadata};
+pub use stream_metadata::{StreamMetadata, read_metadata};

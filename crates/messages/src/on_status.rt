@@ -2,35 +2,28 @@
 ghost use Rattle.std.specs.Prelude.{◌≡◌, drop};
 ghost use Rattle.messages.specs.Notice.{code_at};
 
-use amf0::TextAt;
+use octets::Span;
 
-#[derive(Clone, Copy)]
+#[derive(Clone, Copy, Debug, PartialEq, Eq)]
 pub enum OnStatus {
     // NetStream.Play.Start
     PlayStart,
     // NetStream.Publish.Start
     PublishStart,
     // another code, with the place of its bytes
-    Other { start: usize, len: usize },
-    // no object with a text `code`
-    Invalid,
+    Other(Span),
 }
 
-// The code in the value at `at`.
-pub fn on_status_code(body: &[u8], at: usize) -> OnStatus
+// The code in the value at `at`; none if it is no object with a text `code`.
+pub fn on_status_code(body: &[u8], at: usize) -> Option<OnStatus>
     ensures { result ≡ code_at body.now (drop at body.now) }
 {
-    let TextAt::At { start, len } = amf0::text_at(body, at, b"code") else {
-        return OnStatus::Invalid;
-    };
-    if octets::part_is(body, start, len, b"NetStream.Play.Start") {
-        return OnStatus::PlayStart;
+    let place = amf0::text_at(body, at, b"code")?;
+    if octets::part_is(body, place.start, place.len, b"NetStream.Play.Start") {
+        return Some(OnStatus::PlayStart);
     }
-    if octets::part_is(body, start, len, b"NetStream.Publish.Start") {
-        return OnStatus::PublishStart;
+    if octets::part_is(body, place.start, place.len, b"NetStream.Publish.Start") {
+        return Some(OnStatus::PublishStart);
     }
-    OnStatus::Other {
-        start: start,
-        len: len,
-    }
+    Some(OnStatus::Other(place))
 }

@@ -1,5 +1,5 @@
 // How a stream that is published is kept by the server.
-#[derive(Clone, Copy)]
+#[derive(Clone, Copy, Debug, PartialEq, Eq)]
 pub enum PublishRequestType {
     // not recorded
     Live,

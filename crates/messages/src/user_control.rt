@@ -6,43 +6,32 @@ ghost use Rattle.messages.specs.Places.{placed};
 use crate::ids::{RtmpTimestamp, StreamNumber};
 use crate::protocol_control::last_word;
 use crate::rtmp_message::{RtmpMessage, UserControlEvent};
-use octets::{Be16, Be32};
+use amf0::Malformed;
 
 // What follows event 3.
-fn set_buffer_length(body: &[u8]) -> RtmpMessage
+fn set_buffer_length(body: &[u8]) -> Result<RtmpMessage, Malformed>
     ensures { result ≡ placed body.now (whole user_control (buffer_length (drop 2 body.now))) }
 {
-    let Be32::Is(stream) = octets::read_be32(body, 2) else {
-        return RtmpMessage::Malformed;
-    };
-    let Be32::Is(length) = last_word(body, 6) else {
-        return RtmpMessage::Malformed;
-    };
-    RtmpMessage::UserControl(UserControlEvent::SetBufferLength {
-        stream: StreamNumber(stream),
-        length: length,
-    })
+    let stream = StreamNumber(octets::read_be32(body, 2).ok_or(Malformed)?);
+    let length = last_word(body, 6)?;
+    Ok(RtmpMessage::UserControl(UserControlEvent::SetBufferLength { stream, length }))
 }
 
-pub fn user_control(body: &[u8]) -> RtmpMessage
+pub fn user_control(body: &[u8]) -> Result<RtmpMessage, Malformed>
     ensures { result ≡ placed body.now (user_control_of body.now) }
 {
-    let Be16::Is(event) = octets::read_be16(body, 0) else {
-        return RtmpMessage::Malformed;
-    };
+    let event = octets::read_be16(body, 0).ok_or(Malformed)?;
     if event == 3 {
         return set_buffer_length(body);
     }
-    let Be32::Is(n) = last_word(body, 2) else {
-        return RtmpMessage::Malformed;
-    };
+    let n = last_word(body, 2)?;
     match event {
-        0 => RtmpMessage::UserControl(UserControlEvent::StreamBegin(StreamNumber(n))),
-        1 => RtmpMessage::UserControl(UserControlEvent::StreamEof(StreamNumber(n))),
-        2 => RtmpMessage::UserControl(UserControlEvent::StreamDry(StreamNumber(n))),
-        4 => RtmpMessage::UserControl(UserControlEvent::StreamIsRecorded(StreamNumber(n))),
-        6 => RtmpMessage::UserControl(UserControlEvent::PingRequest(RtmpTimestamp(n))),
-        7 => RtmpMessage::UserControl(UserControlEvent::PingResponse(RtmpTimestamp(n))),
-        _ => RtmpMessage::Malformed,
+        0 => Ok(RtmpMessage::UserControl(UserControlEvent::StreamBegin(StreamNumber(n)))),
+        1 => Ok(RtmpMessage::UserControl(UserControlEvent::StreamEof(StreamNumber(n)))),
+        2 => Ok(RtmpMessage::UserControl(UserControlEvent::StreamDry(StreamNumber(n)))),
+        4 => Ok(RtmpMessage::UserControl(UserControlEvent::StreamIsRecorded(StreamNumber(n)))),
+        6 => Ok(RtmpMessage::UserControl(UserControlEvent::PingRequest(RtmpTimestamp(n)))),
+        7 => Ok(RtmpMessage::UserControl(UserControlEvent::PingResponse(RtmpTimestamp(n)))),
+        _ => Err(Malformed),
     }
 }

@@ -1,58 +1,51 @@
--- What `after` and `kind_at` answer of the value at a place is what is taken there; and what that tells of the values that are read.
+-- What `kind_at` and `after` answer of the value at a place is what is taken there; and what that tells of a value that is read.
 -- Assumes nothing.
-use Prim.Native.Nat.{ℕ, ◌<◌}
-use native.Mathlib.Omega.{arith}
-use mathlib.Core.Path.{◌≡◌, refl}
-use mathlib.Core.List.{List}
-use lib.ListN.{drop, length-drop}
+use Rattle.std.proofs.Common.{◌≡◌, ℕ, ◌<◌, List, arith, drop, length-drop, refl, ◌∙◌}
+use Rattle.std.specs.Prelude.{Result, Ok, Err}
 use Rattle.octets.specs.Parse.{Parse, bad, got, place_of}
 use Rattle.amf0.specs.Value.{Value}
 use Rattle.amf0.specs.Decode.{top_value}
-use Rattle.amf0.specs.Places.{end_of, kind_at, kind_of}
+use Rattle.amf0.specs.Places.{end_of, kind_at, kind_of, malformed}
 use Rattle.amf0.specs.declared.kinds.Kind.{Kind}
-use Rattle.amf0.specs.declared.kinds.Kind.TheVariants as kind
-use Rattle.amf0.specs.declared.read.Next.TheVariants as next
+use Rattle.amf0.specs.declared.read.Malformed.{Malformed}
 use Rattle.amf0.proofs.CutLaws.{clash, past-place, past-length, cuts-value}
 use Rattle.amf0.proofs.KindLaws.{told}
 use Rattle.amf0.proofs.PlaceLaws.{bad-read}
-use Rattle.reader.specs.Read.{taken_from, taken, head_of}
+use Rattle.reader.specs.Read.{taken_from, taken, kind_taken, next_taken}
 use Rattle.reader.specs.declared.Taken.{Taken}
-use Rattle.reader.specs.declared.Head.{Head}
 
 module _ (s : List ℕ) (at : ℕ) where
-  pub none-taken : next.Malformed ≡ end_of s (top_value (drop at s)) → record { kind = kind.Malformed; next = at } ≡ taken s at
+  pub none-taken : {d : Malformed} → Err d ≡ end_of s (top_value (drop at s)) → Err malformed ≡ taken s at
   unfolding taken taken_from
   none-taken e = rw (bad-read s (top_value (drop at s)) e)
 
-  pub one-taken : (k : Kind) (n : ℕ) → next.At n ≡ end_of s (top_value (drop at s)) → k ≡ kind_at s (drop at s) → record { kind = k; next = n } ≡ taken s at
+  pub one-taken : (k : Kind) (n : ℕ) → Ok n ≡ end_of s (top_value (drop at s)) → Ok k ≡ kind_at s (drop at s)
+      → Ok (record { kind = k; next = n }) ≡ taken s at
   unfolding taken taken_from end_of
   one-taken k n e h = go (top_value (drop at s)) refl e
     where
-      go : (p : Parse Value) → top_value (drop at s) ≡ p → next.At n ≡ end_of s p → record { kind = k; next = n } ≡ taken_from s at p
+      go : (p : Parse Value) → top_value (drop at s) ≡ p → Ok n ≡ end_of s p → ◌≡◌ {A = Result Taken Malformed} (Ok (record { kind = k; next = n })) (taken_from s p)
       go bad q e = clash (cc)
-      go (got v r) q e = let i : n ≡ place_of s r = cc in rw (h, told 7 s (drop at s) q, i)
+      go (got v r) q e =
+          let i : n ≡ place_of s r = cc in
+          let g : Ok k ≡ Ok (kind_of s v r) = h ∙ told 7 s (drop at s) q in
+          let j : k ≡ kind_of s v r = cc in
+          rw (i, j)
 
--- what is taken at a place of s: no value, or one, and the bytes after it begin at the place after it
-pub data TakenAt (s : List ℕ) (at : ℕ) : Taken → Type 0 where
-  none : top_value (drop at s) ≡ bad → TakenAt s at (record { kind = kind.Malformed; next = at })
+-- what is read at a place of s, and where the reader stands then: no value, or one, and the bytes after it begin at the place after it
+pub data ReadAt (s : List ℕ) (at : ℕ) : Result Kind Malformed → ℕ → Type 0 where
+  none : {d : Malformed} → top_value (drop at s) ≡ bad → ReadAt s at (Err d) at
   one : (v : Value) (r : List ℕ) → top_value (drop at s) ≡ got v r → r ≡ drop (place_of s r) s → at < place_of s r
-      → TakenAt s at (record { kind = kind_of s v r; next = place_of s r })
+      → ReadAt s at (Ok (kind_of s v r)) (place_of s r)
 
-pub taken_at : (s : List ℕ) (at : ℕ) → TakenAt s at (taken s at)
+-- a reader of x that stands at p, where these are s and at
+pub read_at : (s : List ℕ) (at : ℕ) {x : List ℕ} {p : ℕ} → x ≡ s → p ≡ at → {k : Result Kind Malformed} {n : ℕ}
+    → k ≡ kind_taken (taken x p) → n ≡ next_taken p (taken x p) → ReadAt s at k n
 unfolding taken taken_from
-taken_at s at = go (top_value (drop at s)) refl
+read_at s at a b e h = rw (e, h, a, b) (go (top_value (drop at s)) refl)
   where
-    go : (p : Parse Value) → top_value (drop at s) ≡ p → TakenAt s at (taken_from s at p)
+    go : (p : Parse Value) → top_value (drop at s) ≡ p → ReadAt s at (kind_taken (taken_from s p)) (next_taken at (taken_from s p))
     go bad e = none e
     go (got v r) e =
         let c = (cuts-value 8 (drop at s)).cut e in
         one v r e (past-place s at c) (omega (arith, past-length c, length-drop at s))
-
--- three in turn
-pub record HeadAt (s : List ℕ) (at : ℕ) (h : Head) : Type 0 where
-  pub first : TakenAt s at h.first
-  pub second : TakenAt s h.first.next h.second
-  pub third : TakenAt s h.second.next h.third
-
-pub head_at : (s : List ℕ) (at : ℕ) (h : Head) → h ≡ head_of s at → HeadAt s at h
-head_at s at h e = rw e (record { first = taken_at s at; second = taken_at s _; third = taken_at s _ })

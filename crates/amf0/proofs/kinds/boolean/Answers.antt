@@ -1,21 +1,16 @@
--- `amf0::kinds::boolean` meets its contract: past the end, a zero, or another byte.
+-- `amf0::kinds::boolean` meets its contract: past the end, or whether the byte is a zero.
 -- Assumes nothing.
-use native.Mathlib.Omega.{arith}
-use lib.ListN.{get_or}
-use borrow.Author.Tests.{eq-eqb, ne_eqb}
-use Rattle.octets.proofs.BigEndianLaws.{uint-short}
+use Rattle.std.proofs.Common.{drop, ◌∙◌}
+use Rattle.octets.specs.BigEndian.{uint}
 use Rattle.amf0.specs.Places.{kind_after}
-use Rattle.amf0.proofs.PlaceLaws.{byte_at}
+use Rattle.amf0.proofs.PlaceLaws.{err-is, outcome-none, uint-read}
 use Rattle.amf0.proofs.kinds.boolean.Goals as goal
 
-pub returns-then-s-at : goal.returns-then-s-at
+pub returns-in_err-byte : goal.returns-in_err-byte
 unfolding kind_after
-returns-then-s-at c = let a = c.args in rw (uint-short 1 a.s.now a.at (omega arith))
-
-pub returns-then-s-at-eq0 : goal.returns-then-s-at-eq0
-unfolding kind_after
-returns-then-s-at-eq0 c = let a = c.args in rw (byte_at a.s.now a.at c.if-s-at.false, eq-eqb (get_or a.s.now a.at 0) 0 (omega (arith, c.if-s-at-eq0.true)))
+returns-in_err-byte c =
+    err-is _ c.from_residual.ensures.0 ∙ rw (outcome-none (uint 1 (drop c.args.at c.args.s.now)) c.in_err-byte.ensures)
 
 pub returns : goal.returns
 unfolding kind_after
-returns c = let a = c.args in rw (byte_at a.s.now a.at c.if-s-at.false, ne_eqb _ _ c.if-s-at-eq0.false)
+returns c = rw (uint-read 1 c.args.s.now c.args.at _ c.in_ok-byte.ensures).is

@@ -1,55 +1,51 @@
 -- `amf0::kinds::kind_at` meets its contract, marker by marker.
 -- Assumes nothing.
-use Prim.Native.Nat.{◌+◌}
-use mathlib.Core.Path.{◌≡◌, ◌∙◌}
-use lib.ListN.{drop}
+use Rattle.std.proofs.Common.{◌≡◌, arith, ◌+◌, drop, ◌∙◌, inl, inr}
 use Rattle.amf0.specs.Places.{kind_after, kind_at}
 use Rattle.amf0.specs.declared.marker.Marker.{Marker}
-use Rattle.amf0.specs.declared.marker.Marker.TheVariants.{Number, Boolean, Text, Object, Null, Undefined, EcmaArray, StrictArray, Other}
-use Rattle.amf0.proofs.KindLaws.{kind-is, kind-over}
+use Rattle.amf0.specs.declared.marker.Marker.TheVariants.{Number, Boolean, Text, Object, Null, Undefined, EcmaArray, StrictArray}
+use Rattle.amf0.proofs.PlaceLaws.{err-is, outcome-none, MarkerRead, marker-read}
+use Rattle.amf0.proofs.KindLaws.{kind-is, kind-none}
 use Rattle.amf0.proofs.kinds.kind_at.Goals as goal
-use Rattle.amf0.proofs.kinds.kind_at.Goals.{After-marker_of}
+use Rattle.amf0.proofs.kinds.kind_at.Goals.{In_ok-marker}
 
-pub returns-then-s-at : goal.returns-then-s-at
-returns-then-s-at c = let a = c.args in kind-over a.s.now a.at c.if-s-at.true
+-- the marker that was read, and what follows it
+marker-of : (c : In_ok-marker) → MarkerRead c.args.s.now c.args.at c.in_ok-marker.marker
+marker-of c = marker-read _ _ _ c.in_ok-marker.ensures
 
--- what follows the marker m
-kind-of : (c : After-marker_of) (m : Marker) → c.marker_of.result ≡ m →
-    let a = c.args in
-    kind_after a.s.now m (drop (a.at + 1) a.s.now) ≡ kind_at a.s.now (drop a.at a.s.now)
-kind-of c m t =
-    let a = c.args in
-    kind-is a.s.now a.at c.if-s-at.false c.marker_of.result c.marker_of.ensures m t
+told : (c : In_ok-marker) (m : Marker) → c.in_ok-marker.marker ≡ m →
+    let a = c.args in kind_after a.s.now m (drop (a.at + 1) a.s.now) ≡ kind_at a.s.now (drop a.at a.s.now)
+told c m e = rw (← e) (kind-is c.args.s.now c.args.at (marker-of c))
+
+pub returns-in_err-marker : goal.returns-in_err-marker
+returns-in_err-marker c = err-is _ c.from_residual.ensures.0 ∙ kind-none c.args.s.now c.args.at (outcome-none _ c.in_err-marker.ensures)
+
+pub overflow_add-b : goal.overflow_add-b
+overflow_add-b c = omega (arith, (marker-of c).within)
 
 pub returns-in-Number : goal.returns-in-Number
-returns-in-Number c = c.number.ensures ∙ kind-of (goal.at.returns-in-Number c).After-marker_of Number c.in-Number.is
+returns-in-Number c = c.number.ensures ∙ told (goal.at.returns-in-Number c).In_ok-marker Number c.in-Number.is
 
 pub returns-in-Boolean : goal.returns-in-Boolean
-returns-in-Boolean c = c.boolean.ensures ∙ kind-of (goal.at.returns-in-Boolean c).After-marker_of Boolean c.in-Boolean.is
+returns-in-Boolean c = c.boolean.ensures ∙ told (goal.at.returns-in-Boolean c).In_ok-marker Boolean c.in-Boolean.is
 
 pub returns-in-Text : goal.returns-in-Text
-returns-in-Text c = c.text_kind.ensures ∙ kind-of (goal.at.returns-in-Text c).After-marker_of Text c.in-Text.is
-
-pub returns-in-Object : goal.returns-in-Object
-unfolding kind_after
-returns-in-Object c = kind-of (goal.at.returns-in-Object c).After-marker_of Object c.in-Object.is
+returns-in-Text c = c.text_kind.ensures ∙ told (goal.at.returns-in-Text c).In_ok-marker Text c.in-Text.is
 
 pub returns-in-Null : goal.returns-in-Null
 unfolding kind_after
-returns-in-Null c = kind-of (goal.at.returns-in-Null c).After-marker_of Null c.in-Null.is
+returns-in-Null c = told (goal.at.returns-in-Null c).In_ok-marker Null c.in-Null.is
 
 pub returns-in-Undefined : goal.returns-in-Undefined
 unfolding kind_after
-returns-in-Undefined c = kind-of (goal.at.returns-in-Undefined c).After-marker_of Undefined c.in-Undefined.is
-
-pub returns-in-EcmaArray : goal.returns-in-EcmaArray
-unfolding kind_after
-returns-in-EcmaArray c = kind-of (goal.at.returns-in-EcmaArray c).After-marker_of EcmaArray c.in-EcmaArray.is
+returns-in-Undefined c = told (goal.at.returns-in-Undefined c).In_ok-marker Undefined c.in-Undefined.is
 
 pub returns-in-StrictArray : goal.returns-in-StrictArray
 unfolding kind_after
-returns-in-StrictArray c = kind-of (goal.at.returns-in-StrictArray c).After-marker_of StrictArray c.in-StrictArray.is
+returns-in-StrictArray c = told (goal.at.returns-in-StrictArray c).In_ok-marker StrictArray c.in-StrictArray.is
 
-pub returns-in-Other : goal.returns-in-Other
+pub returns-in-Object : goal.returns-in-Object
 unfolding kind_after
-returns-in-Other c = kind-of (goal.at.returns-in-Other c).After-marker_of Other c.in-Other.is
+returns-in-Object c =
+    let b = (goal.at.returns-in-Object c).In_ok-marker in
+    elim c.in-Object.is [ inl e ↦ told b Object e | inr e ↦ told b EcmaArray e ]

@@ -1,23 +1,17 @@
 -- `amf0::kinds::number` meets its contract: too few bytes, or the number that was read.
 -- Assumes nothing.
-use mathlib.Core.Path.{sym, ◌∙◌}
-use lib.ListN.{drop}
+use Rattle.std.proofs.Common.{drop, ◌∙◌}
 use Rattle.octets.specs.BigEndian.{uint}
-use Rattle.octets.specs.declared.big_endian.Be64.TheVariants.{Is, Short}
 use Rattle.amf0.specs.Places.{kind_after}
-use Rattle.amf0.proofs.CutLaws.{clash}
-use Rattle.amf0.proofs.PlaceLaws.{uint-read, uint-none}
+use Rattle.amf0.proofs.PlaceLaws.{err-is, outcome-none, uint-read, or-malformed}
 use Rattle.amf0.proofs.kinds.number.Goals as goal
 
-pub returns-in-Is : goal.returns-in-Is
+pub returns-in_err-ok_or : goal.returns-in_err-ok_or
 unfolding kind_after
-returns-in-Is c =
-    let a = c.args in
-    rw (uint-read Short Is 8 a.s.now a.at _ (λ y e. cc) (λ e. clash (cc))
-    (sym c.in-Is.is ∙ c.read_be64.ensures)).is
+returns-in_err-ok_or c =
+    let p = uint 8 (drop c.args.at c.args.s.now) in
+    err-is _ c.from_residual.ensures.0 ∙ rw (outcome-none p (c.in_err-ok_or.ensures.value ∙ or-malformed _ p c.read_be64.ensures))
 
-pub returns-in-Short : goal.returns-in-Short
+pub returns : goal.returns
 unfolding kind_after
-returns-in-Short c =
-    let a = c.args in
-    rw (uint-none Short Is (uint 8 (drop a.at a.s.now)) (λ y e. clash (cc)) (sym c.in-Short.is ∙ c.read_be64.ensures))
+returns c = rw (uint-read 8 c.args.s.now c.args.at _ (c.in_ok-ok_or.ensures.value ∙ or-malformed _ _ c.read_be64.ensures)).is

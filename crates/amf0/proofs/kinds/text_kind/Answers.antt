@@ -1,14 +1,14 @@
 -- `amf0::kinds::text_kind` meets its contract: the place that `text` finds, or that it finds none.
 -- Assumes nothing.
-use mathlib.Core.Path.{sym, ◌∙◌}
-use Rattle.amf0.proofs.KindLaws.{kind-text, kind-no-text}
+use Rattle.std.proofs.Common.{ap, ◌∙◌}
+use Rattle.amf0.specs.Places.{text_kind, kind_after}
+use Rattle.amf0.proofs.PlaceLaws.{err-is}
 use Rattle.amf0.proofs.kinds.text_kind.Goals as goal
 
-pub returns-in-At : goal.returns-in-At
-returns-in-At c =
-    let a = c.args in
-    kind-text a.s.now _ _ _ (sym c.in-At.is ∙ c.text.ensures)
+pub returns-in_err-text : goal.returns-in_err-text
+unfolding kind_after
+returns-in_err-text c = err-is _ c.from_residual.ensures.0 ∙ ap text_kind c.in_err-text.ensures
 
-pub returns-in-Absent : goal.returns-in-Absent
-returns-in-Absent c =
-    let a = c.args in kind-no-text a.s.now _ (sym c.in-Absent.is ∙ c.text.ensures)
+pub returns : goal.returns
+unfolding kind_after
+returns c = ap text_kind c.in_ok-text.ensures

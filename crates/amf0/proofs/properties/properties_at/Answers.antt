@@ -1,75 +1,56 @@
 -- `amf0::properties::properties_at` meets its contract, marker by marker.
 -- Assumes nothing.
--- what follows the marker m
-use Prim.Native.Nat.{◌+◌}
-use native.Mathlib.Omega.{arith}
-use mathlib.Core.Path.{◌≡◌, sym, ap, ◌∙◌}
-use lib.ListN.{drop}
-use Rattle.octets.specs.declared.big_endian.Be32.TheVariants.{Is, Short}
+use Rattle.std.proofs.Common.{◌≡◌, arith, ◌+◌, drop, sym, ap, ◌∙◌, refl, ℕ}
+use Rattle.std.specs.Prelude.{Some, Ok}
 use Rattle.amf0.specs.Places.{start_after, start_at}
 use Rattle.amf0.specs.declared.marker.Marker.{Marker}
-use Rattle.amf0.specs.declared.marker.Marker.TheVariants.{Number, Boolean, Text, Object, Null, Undefined, EcmaArray, StrictArray, Other}
-use Rattle.amf0.specs.declared.properties.Found.TheVariants as found
-use Rattle.amf0.proofs.CutLaws.{clash}
-use Rattle.amf0.proofs.PlaceLaws.{UintRead, uint-read, uint-none, place_at}
-use Rattle.amf0.proofs.FindLaws.{start-over, start_is, ecma_short, ecma-is}
+use Rattle.amf0.specs.declared.marker.Marker.TheVariants.{Object, EcmaArray}
+use Rattle.amf0.proofs.PlaceLaws.{MarkerRead, UintRead, err-is, outcome-none, marker-read, uint-read, or-malformed, place_at}
+use Rattle.amf0.proofs.FindLaws.{start-none, start_is, start_other, ecma_short, ecma-is}
 use Rattle.amf0.proofs.properties.properties_at.Goals as goal
-use Rattle.amf0.proofs.properties.properties_at.Goals.{After-marker_of, In-Is}
+use Rattle.amf0.proofs.properties.properties_at.Goals.{In_ok-marker, In_ok-ok_or-in-EcmaArray}
 
-start_of : (c : After-marker_of) (m : Marker) → c.marker_of.result ≡ m →
-    let a = c.args in
-    start_after a.s.now m (drop (a.at + 1) a.s.now) ≡ start_at a.s.now (drop a.at a.s.now)
-start_of c m t =
-    let a = c.args in
-    start_is a.s.now a.at c.if-s-at.false c.marker_of.result c.marker_of.ensures m t
+-- the marker that was read, and what follows it
+marker-of : (c : In_ok-marker) → MarkerRead c.args.s.now c.args.at c.in_ok-marker.marker
+marker-of c = marker-read _ _ _ c.in_ok-marker.ensures
+
+start_of : (c : In_ok-marker) (m : Marker) → c.in_ok-marker.marker ≡ m →
+    let a = c.args in start_after a.s.now m (drop (a.at + 1) a.s.now) ≡ start_at a.s.now (drop a.at a.s.now)
+start_of c m e = rw (← e) (start_is c.args.s.now c.args.at (marker-of c))
 
 -- the count of an ECMA array
-count_of : (c : In-Is) → let a = c.args in UintRead 4
-    a.s.now (a.at + 1) c.in-Is.field-0
-count_of c = uint-read Short Is 4 _ _ _ (λ y e. cc) (λ e. clash (cc)) (sym c.in-Is.is ∙ c.read_be32.ensures)
+count_of : (c : In_ok-ok_or-in-EcmaArray) → UintRead 4 c.args.s.now (c.args.at + 1) c.in_ok-ok_or-in-EcmaArray.field-0
+count_of c = uint-read 4 _ _ _ (c.in_ok-ok_or-in-EcmaArray.ensures.value ∙ or-malformed _ _ c.read_be32.ensures)
 
-pub returns-then-s-at : goal.returns-then-s-at
-returns-then-s-at c = let a = c.args in start-over a.s.now a.at c.if-s-at.true
+pub returns-in_err-marker : goal.returns-in_err-marker
+returns-in_err-marker c = err-is _ c.from_residual.ensures.0 ∙ start-none c.args.s.now c.args.at (outcome-none _ c.in_err-marker.ensures)
+
+pub overflow_add-b : goal.overflow_add-b
+overflow_add-b c = omega (arith, (marker-of c).within)
+
+pub returns-in_err-ok_or-in-EcmaArray : goal.returns-in_err-ok_or-in-EcmaArray
+returns-in_err-ok_or-in-EcmaArray c =
+    let a = c.args in
+    err-is _ c.from_residual-in_err-ok_or-in-EcmaArray.ensures.0
+    ∙ ecma_short a.s.now (a.at + 1) (outcome-none _ (c.in_err-ok_or-in-EcmaArray.ensures.value ∙ or-malformed _ _ c.read_be32.ensures))
+    ∙ start_of (goal.at.returns-in_err-ok_or-in-EcmaArray c).In_ok-marker EcmaArray c.in-EcmaArray.is
 
 pub overflow_add-result : goal.overflow_add-result
 overflow_add-result c = omega (arith, (count_of c).within)
 
-pub returns-in-Number : goal.returns-in-Number
-returns-in-Number c = start_of (goal.at.returns-in-Number c).After-marker_of Number c.in-Number.is
-
-pub returns-in-Boolean : goal.returns-in-Boolean
-returns-in-Boolean c = start_of (goal.at.returns-in-Boolean c).After-marker_of Boolean c.in-Boolean.is
-
-pub returns-in-Text : goal.returns-in-Text
-returns-in-Text c = start_of (goal.at.returns-in-Text c).After-marker_of Text c.in-Text.is
-
 pub returns-in-Object : goal.returns-in-Object
 returns-in-Object c =
     let a = c.args in
-    ap found.At (sym (place_at a.s.now (a.at + 1) (omega (arith, c.if-s-at.false))))
-    ∙ start_of (goal.at.returns-in-Object c).After-marker_of Object c.in-Object.is
+    let b = (goal.at.returns-in-Object c).In_ok-marker in
+    ap (λ (k : ℕ). Ok (Some k)) (sym (place_at a.s.now (a.at + 1) (omega (arith, (marker-of b).within))))
+    ∙ start_of b Object c.in-Object.is
 
-pub returns-in-Null : goal.returns-in-Null
-returns-in-Null c = start_of (goal.at.returns-in-Null c).After-marker_of Null c.in-Null.is
-
-pub returns-in-Undefined : goal.returns-in-Undefined
-returns-in-Undefined c = start_of (goal.at.returns-in-Undefined c).After-marker_of Undefined c.in-Undefined.is
-
-pub returns-in-Is : goal.returns-in-Is
-returns-in-Is c =
+pub returns-in_ok-ok_or-in-EcmaArray : goal.returns-in_ok-ok_or-in-EcmaArray
+returns-in_ok-ok_or-in-EcmaArray c =
     let a = c.args in
-    ecma-is a.s.now (a.at + 1) (omega (arith, c.if-s-at.false)) (count_of c)
-    ∙ start_of (goal.at.returns-in-Is c).After-marker_of EcmaArray c.in-EcmaArray.is
+    let b = (goal.at.returns-in_ok-ok_or-in-EcmaArray c).In_ok-marker in
+    ecma-is a.s.now (a.at + 1) (omega (arith, (marker-of b).within)) (count_of c) ∙ start_of b EcmaArray c.in-EcmaArray.is
 
-pub returns-in-Short : goal.returns-in-Short
-returns-in-Short c =
-    let a = c.args in
-    ecma_short a.s.now (a.at + 1) (uint-none Short Is _ (λ y e. clash (cc))
-    (sym c.in-Short.is ∙ c.read_be32.ensures))
-    ∙ start_of (goal.at.returns-in-Short c).After-marker_of EcmaArray c.in-EcmaArray.is
-
-pub returns-in-StrictArray : goal.returns-in-StrictArray
-returns-in-StrictArray c = start_of (goal.at.returns-in-StrictArray c).After-marker_of StrictArray c.in-StrictArray.is
-
-pub returns-in-Other : goal.returns-in-Other
-returns-in-Other c = start_of (goal.at.returns-in-Other c).After-marker_of Other c.in-Other.is
+pub returns-in_default : goal.returns-in_default
+returns-in_default c =
+    start_other c.args.s.now c.args.at _ c.in_default.not-Object c.in_default.not-EcmaArray ∙ start_of (goal.at.returns-in_default c).In_ok-marker _ refl

@@ -1,46 +1,39 @@
 -- `amf0::properties::property_at` meets its contract: the name, and then the value.
 -- Assumes nothing.
--- the name that was read
-use native.Mathlib.Omega.{arith}
-use mathlib.Core.Path.{◌≡◌, sym, ap, ◌∙◌}
-use lib.ListN.{drop}
+use Rattle.std.proofs.Common.{◌≡◌, arith, drop, sym, ap, ◌∙◌}
+use Rattle.std.specs.Prelude.{Ok}
 use Rattle.amf0.specs.Decode.{name_of}
 use Rattle.amf0.specs.Names.{named_of, with_value, property_of}
-use Rattle.amf0.specs.declared.names.Named.TheVariants as names
+use Rattle.amf0.specs.declared.names.Named.TheVariants.{At}
+use Rattle.amf0.proofs.PlaceLaws.{err-is}
 use Rattle.amf0.proofs.TextLaws.{name-place}
 use Rattle.amf0.proofs.properties.property_at.Goals as goal
 use Rattle.amf0.proofs.properties.property_at.Goals.{In-At}
 
-name-of : (c : In-At) →
-    let a = c.args in
-    names.At c.in-At.start c.in-At.len ≡ named_of a.s.now (name_of (drop a.at a.s.now))
-name-of c = sym c.in-At.is ∙ c.name.ensures
+-- the name that was read
+name-of : (c : In-At) → Ok (At c.in-At.name) ≡ named_of c.args.s.now (name_of (drop c.args.at c.args.s.now))
+name-of c = ap Ok (sym c.in-At.is) ∙ c.in_ok-name.ensures
 
-pub overflow_add-start : goal.overflow_add-start
-overflow_add-start c =
-    let a = c.args in
-    omega (arith, (name-place a.s.now a.at _ _ (name-of c)).within)
+pub returns-in_err-name : goal.returns-in_err-name
+unfolding property_of
+returns-in_err-name c = err-is _ c.from_residual.ensures.0 ∙ ap (property_of c.args.s.now) c.in_err-name.ensures
+
+pub overflow_add-name : goal.overflow_add-name
+overflow_add-name c = omega (arith, (name-place c.args.s.now c.args.at _ (name-of (goal.at.overflow_add-name c).In-At)).within)
+
+pub returns-in_err-next-in-At : goal.returns-in_err-next-in-At
+unfolding property_of
+returns-in_err-next-in-At c =
+    let k = (goal.at.returns-in_err-next-in-At c).In-At in
+    err-is _ c.from_residual-in_err-next-in-At.ensures.0
+    ∙ ap (with_value c.in-At.name) c.in_err-next-in-At.ensures ∙ ap (property_of k.args.s.now) (name-of k)
 
 pub returns-in-End : goal.returns-in-End
 unfolding property_of
-returns-in-End c =
-    ap (property_of c.args.s.now) (sym c.in-End.is ∙ c.name.ensures)
+returns-in-End c = ap (property_of c.args.s.now) (ap Ok (sym c.in-End.is) ∙ c.in_ok-name.ensures)
 
-pub returns-in-At-value : goal.returns-in-At-value
+pub returns-in_ok-next-in-At : goal.returns-in_ok-next-in-At
 unfolding property_of
-returns-in-At-value c =
-    let k = (goal.at.returns-in-At-value c).In-At in
-    ap (with_value c.in-At.start c.in-At.len) (sym c.in-At-value.is ∙ c.value.ensures)
-    ∙ ap (property_of k.args.s.now) (name-of k)
-
-pub returns-in-Malformed-value : goal.returns-in-Malformed-value
-unfolding property_of
-returns-in-Malformed-value c =
-    let k = (goal.at.returns-in-Malformed-value c).In-At in
-    ap (with_value c.in-At.start c.in-At.len) (sym c.in-Malformed-value.is ∙ c.value.ensures)
-    ∙ ap (property_of k.args.s.now) (name-of k)
-
-pub returns-in-Malformed : goal.returns-in-Malformed
-unfolding property_of
-returns-in-Malformed c =
-    ap (property_of c.args.s.now) (sym c.in-Malformed.is ∙ c.name.ensures)
+returns-in_ok-next-in-At c =
+    let k = (goal.at.returns-in_ok-next-in-At c).In-At in
+    ap (with_value c.in-At.name) c.in_ok-next-in-At.ensures ∙ ap (property_of k.args.s.now) (name-of k)

@@ -1,6 +1,6 @@
-use Prim.Native.Nat.{◌-◌, ◌≤◌}
-use mathlib.Core.Path.{◌≡◌}
-use lib.ListN.{length, drop}
+-- What there is to answer are the values from i on, with those that were counted before; i is at least n, since each value takes a byte.
+-- Assumes nothing.
+use Rattle.std.proofs.Common.{length, ◌-◌, ◌≡◌, ◌≤◌, drop}
 use Rattle.amf0.specs.Decode.{all_values}
 use Rattle.amf0.specs.Places.{count_of}
 use Rattle.amf0.proofs.ReadLaws.{plus}

@@ -1,14 +1,16 @@
--- `amf0::put_boolean` meets its contract: the marker and the byte that the branch puts.
+-- `amf0::put_boolean` meets its contract: the marker and the byte that the library makes of a bool.
 -- Assumes nothing.
-use borrow.Author.Rules.{rules}
+use mathlib.Core.Bool.{Bool, true, false, cond}
+use mathlib.Core.Path.{◌≡◌, refl, ◌∙◌}
+use mir.Val.{bool_byte}
 use Rattle.octets.proofs.OutputLaws.{cons}
 use Rattle.amf0.specs.Encode.{encode}
 use Rattle.amf0.proofs.write.put_boolean.Goals as goal
 
-pub returns-then-b : goal.returns-then-b
-unfolding encode
-returns-then-b c = rw c.if-b.true (search (cons, rules))
+byte_is : (b : Bool) → bool_byte b ≡ cond b 1 0
+byte_is true = refl
+byte_is false = refl
 
-pub returns : goal.returns
+pub returns-clause-put : goal.returns-clause-put
 unfolding encode
-returns c = rw c.if-b.false (search (cons, rules))
+returns-clause-put c = cons c.put_u8.ensures.put (rw (c.from.ensures ∙ byte_is c.args.b) at c.put_u8-2.ensures.put)

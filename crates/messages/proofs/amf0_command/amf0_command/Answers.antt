@@ -1,96 +1,81 @@
 -- `messages::amf0_command::amf0_command` meets its contract: part by part, up to the first that is missing.
 -- Assumes nothing.
--- from where the head is read on
-use Prim.Native.Nat.{ℕ}
-use native.Mathlib.Omega.{arith}
-use mathlib.Core.Path.{◌≡◌, sym, ap, ◌∙◌}
-use mathlib.Core.List.{List}
-use lib.ListN.{drop}
-use Rattle.amf0.specs.Places.{only_text}
-use Rattle.amf0.specs.declared.properties.TextAt.TheVariants as text_at
-use Rattle.reader.specs.declared.Head.{Head}
-use Rattle.reader.proofs.TakenLaws.{HeadAt, head_at}
-use Rattle.messages.specs.Places.{placed}
-use Rattle.messages.specs.Steps.{only_number, argument_kind}
-use Rattle.messages.specs.declared.kind.OptionU64.TheVariants as u64
+use Rattle.std.proofs.Common.{◌≡◌, ℕ, List, Bor, refl, sym, ap, ◌∙◌}
+use Rattle.std.specs.Prelude.{Some}
+use Rattle.amf0.specs.Places.{text_told}
+use Rattle.amf0.proofs.PlaceLaws.{err-is, ok-or-some, ok-or-none}
+use Rattle.reader.proofs.TakenLaws.{ReadAt, read_at}
+use Rattle.messages.proofs.LeafLaws.{number_told}
 use Rattle.messages.proofs.ValuesLaws.{all_there, first_told}
 use Rattle.messages.proofs.CommandLaws.{no_name, no_number, no-object, no-values, command-is}
 use Rattle.messages.proofs.amf0_command.amf0_command.Goals as goal
-use Rattle.messages.proofs.amf0_command.amf0_command.Goals.{After-read_head-head, In-At, In-Some}
+use Rattle.messages.proofs.amf0_command.amf0_command.Goals.{After-read_value, In_ok-name_at, After-read_value-2, In_ok-number, After-read_value-3}
 
-abbrev bytes : After-read_head-head → List ℕ
-bytes c = c.args.body.now
+-- the three values that are read
+abbrev bytes : Bor (List ℕ) → List ℕ
+bytes b = b.now
 
-abbrev at : After-read_head-head → ℕ
-at c = c.args.at
+first : (c : After-read_value) → ReadAt c.args.body.now c.args.at c.read_value.result c.read_value.new.self.at
+first c =
+    read_at c.args.body.now c.args.at (ap bytes c.new-reader.ensures.0) c.new-reader.ensures.1 c.read_value.ensures.kind c.read_value.ensures.at
 
-abbrev head : After-read_head-head → Head
-head c = c.read_head-head.result
+second : (c : After-read_value-2) → ReadAt c.args.body.now c.read_value.new.self.at c.read_value-2.result c.read_value-2.new.self.at
+second c =
+    read_at c.args.body.now _ (ap bytes (c.read_value.ensures.src ∙ c.new-reader.ensures.0)) refl c.read_value-2.ensures.kind c.read_value-2.ensures.at
 
-head_there : (c : After-read_head-head) → HeadAt (bytes c) (at c) (head c)
-head_there c = head_at (bytes c) (at c) (head c) c.read_head-head.ensures
+third : (c : After-read_value-3) → ReadAt c.args.body.now c.read_value-2.new.self.at c.read_value-3.result c.read_value-3.new.self.at
+third c =
+    read_at c.args.body.now _ (ap bytes (c.read_value-2.ensures.src ∙ c.read_value.ensures.src ∙ c.new-reader.ensures.0)) refl
+    c.read_value-3.ensures.kind c.read_value-3.ensures.at
 
-pub returns-in_default : goal.returns-in_default
-unfolding placed
-returns-in_default c =
-    let e = sym c.in_default.is ∙ c.text_of.ensures in
-    ap (placed (bytes (goal.at.returns-in_default c).After-read_head-head)) (no_name (bytes (goal.at.returns-in_default c).After-read_head-head) (at (goal.at.returns-in_default c).After-read_head-head) (head (goal.at.returns-in_default c).After-read_head-head) (head_there (goal.at.returns-in_default c).After-read_head-head) e)
+-- what the first and the second tell
+name-told : (c : In_ok-name_at) → Some c.in_ok-name_at.name_at ≡ text_told c.read_value.result
+name-told c = ok-or-some _ c.in_ok-name_at.ensures.value ∙ c.text.ensures ∙ sym (ap text_told c.in_ok-read_value.was)
 
--- from where the name's place is bound on
-abbrev made : In-At → After-read_head-head
-made c = (goal.at.In-At c).After-read_head-head
+number-told : (c : In_ok-number) → Some c.in_ok-number.number ≡ number_told c.read_value-2.result
+number-told c = ok-or-some _ c.in_ok-number.ensures.value ∙ c.number.ensures ∙ sym (ap number_told c.in_ok-read_value-2.was)
 
-abbrev start : In-At → ℕ
-start c = c.in-At.start
+pub returns-in_err-read_value : goal.returns-in_err-read_value
+returns-in_err-read_value c =
+    err-is _ c.from_residual.ensures.0 ∙ no_name _ _ (first (goal.at.returns-in_err-read_value c).After-read_value) (sym (ap text_told c.in_err-read_value.was))
 
-abbrev len : In-At → ℕ
-len c = c.in-At.len
+pub returns-in_err-name_at : goal.returns-in_err-name_at
+returns-in_err-name_at c =
+    err-is _ c.from_residual-in_err-name_at.ensures.0
+    ∙ no_name _ _ (first (goal.at.returns-in_err-name_at c).After-read_value)
+    (ok-or-none _ c.in_err-name_at.ensures.value ∙ c.text.ensures ∙ sym (ap text_told c.in_ok-read_value.was))
 
-name-told : (c : In-At) → text_at.At (start c) (len c) ≡ only_text (head (made c)).first.kind
-name-told c = sym c.in-At.is ∙ c.text_of.ensures
+pub returns-in_err-read_value-2 : goal.returns-in_err-read_value-2
+returns-in_err-read_value-2 c =
+    let b = goal.at.returns-in_err-read_value-2 c in
+    err-is _ c.from_residual-in_err-read_value-2.ensures.0
+    ∙ no_number _ _ (first b.After-read_value) _ (name-told b.In_ok-name_at) (second b.After-read_value-2) (sym (ap number_told c.in_err-read_value-2.was))
 
-pub returns-in_default-number_of : goal.returns-in_default-number_of
-unfolding placed
-returns-in_default-number_of c =
-    let b = made (goal.at.returns-in_default-number_of c).In-At in
-    let e = sym c.in_default-number_of.is ∙ c.number_of.ensures in
-    ap (placed (bytes b)) (no_number (bytes b) (at b) (head b) (head_there b) (start (goal.at.returns-in_default-number_of c).In-At) (len (goal.at.returns-in_default-number_of c).In-At) (name-told (goal.at.returns-in_default-number_of c).In-At) e)
+pub returns-in_err-number : goal.returns-in_err-number
+returns-in_err-number c =
+    let b = goal.at.returns-in_err-number c in
+    err-is _ c.from_residual-in_err-number.ensures.0
+    ∙ no_number _ _ (first b.After-read_value) _ (name-told b.In_ok-name_at) (second b.After-read_value-2)
+    (ok-or-none _ c.in_err-number.ensures.value ∙ c.number.ensures ∙ sym (ap number_told c.in_ok-read_value-2.was))
 
--- from where the number is bound on
-abbrev named : In-Some → In-At
-named c = (goal.at.In-Some c).In-At
+pub returns-in_err-read_value-3 : goal.returns-in_err-read_value-3
+returns-in_err-read_value-3 c =
+    let b = goal.at.returns-in_err-read_value-3 c in
+    err-is _ c.from_residual-in_err-read_value-3.ensures.0
+    ∙ no-object _ _ (first b.After-read_value) _ (name-told b.In_ok-name_at) (second b.After-read_value-2) _ (number-told b.In_ok-number)
+    (third b.After-read_value-3) c.in_err-read_value-3.was
 
-abbrev number : In-Some → ℕ
-number c = c.in-Some.number
-
-number-told : (c : In-Some) → u64.Some (number c) ≡ only_number (head (made (named c))).second.kind
-number-told c = sym c.in-Some.is ∙ c.number_of.ensures
-
-pub returns-then-args-object : goal.returns-then-args-object
-unfolding placed
-returns-then-args-object c =
-    let n = named (goal.at.returns-then-args-object c).In-Some in
-    let b = made n in
-    ap (placed (bytes b))
-    (no-object (bytes b) (at b) (head b) (head_there b) (start n) (len n) (name-told n) (number (goal.at.returns-then-args-object c).In-Some) (number-told (goal.at.returns-then-args-object c).In-Some) (omega arith))
-
-pub returns-in_default-count_values : goal.returns-in_default-count_values
-unfolding placed
-returns-in_default-count_values c =
-    let n = named (goal.at.returns-in_default-count_values c).In-Some in
-    let b = made n in
-    let e = sym c.in_default-count_values.is ∙ c.count_values.ensures in
-    ap (placed (bytes b))
-    (no-values (bytes b) (at b) (head b) (head_there b) (start n) (len n) (name-told n) (number (goal.at.returns-in_default-count_values c).In-Some) (number-told (goal.at.returns-in_default-count_values c).In-Some) (λ q. omega arith)
-    (all_there (drop (head b).third.next (bytes b)) _ e))
+pub returns-in_err-count_values : goal.returns-in_err-count_values
+returns-in_err-count_values c =
+    let b = goal.at.returns-in_err-count_values c in
+    err-is _ c.from_residual-in_err-count_values.ensures.0
+    ∙ no-values _ _ (first b.After-read_value) _ (name-told b.In_ok-name_at) (second b.After-read_value-2) _ (number-told b.In_ok-number)
+    (third b.After-read_value-3) c.in_ok-read_value-3.was (all_there _ _ c.in_err-count_values.ensures)
 
 pub returns : goal.returns
 returns c =
-    let n = named (goal.at.returns c).In-Some in
-    let b = made n in
-    let e = sym c.in-Is.is ∙ c.count_values.ensures in
-    let x = drop (head b).third.next (bytes b) in
-    let a = all_there x _ e in
-    let f = c.argument_of-argument.ensures ∙ ap argument_kind c.kind_at.ensures ∙ first_told (bytes b) x a.all a.ended in
-    rw (c.command_name-name.ensures, f)
-    (command-is (bytes b) (at b) (head b) (head_there b) (start n) (len n) (name-told n) (number (goal.at.returns c).In-Some) (number-told (goal.at.returns c).In-Some) (λ q. omega (arith, c.if-args-object.false)) a.all a.read)
+    let b = goal.at.returns c in
+    let a = all_there _ _ c.in_ok-count_values.ensures in
+    rw (c.command_name.ensures, c.argument_at.ensures, first_told c.args.body.now _ a.all a.ended)
+    (command-is _ _ (first b.After-read_value) _ (name-told b.In_ok-name_at) (second b.After-read_value-2) _ (number-told b.In_ok-number)
+    (third b.After-read_value-3) c.in_ok-read_value-3.was a.all a.read)

@@ -10,7 +10,7 @@ use Rattle.messages.proofs.amf0_command.command_name.Goals as goal
 use Rattle.messages.proofs.amf0_command.command_name.Goals.{Else-part_is, Else-part_is-2, Start}
 
 abbrev Compared : Start → String → Bool → Type 0
-Compared c n b = same (part c.args.body.now c.args.start c.args.len) (ascii n) ≡ b
+Compared c n b = same (part c.args.body.now c.args.place.start c.args.place.len) (ascii n) ≡ b
 
 pub returns-then-part_is : goal.returns-then-part_is
 unfolding name_of

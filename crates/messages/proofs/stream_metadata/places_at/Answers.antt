@@ -1,23 +1,17 @@
 -- `messages::stream_metadata::places_at` meets its contract: where the properties start, and then the places of the fields.
 -- Assumes nothing.
-use mathlib.Core.Path.{sym, ◌∙◌}
-use Rattle.messages.specs.Metadata.{field_places}
+use Rattle.std.proofs.Common.{sym, ap, ◌∙◌}
+use Rattle.std.specs.Prelude.{Some, None, Ok, Err}
+use Rattle.amf0.proofs.PlaceLaws.{err-is}
 use Rattle.messages.proofs.PlacesLaws.{places-from}
 use Rattle.messages.proofs.stream_metadata.places_at.Goals as goal
 
-pub returns-in-At : goal.returns-in-At
-unfolding field_places
-returns-in-At c =
-    let a = c.args in
-    c.places_in.ensures
-    ∙ places-from a.body.now a.at _ (sym c.in-At.is ∙ c.properties_at.ensures)
+pub returns-in_err-start : goal.returns-in_err-start
+returns-in_err-start c = let a = c.args in err-is _ c.from_residual.ensures.0 ∙ places-from a.body.now a.at (Err _) c.in_err-start.ensures
 
-pub returns-in-Absent : goal.returns-in-Absent
-returns-in-Absent c =
-    let a = c.args in
-    places-from a.body.now a.at _ (sym c.in-Absent.is ∙ c.properties_at.ensures)
+pub returns-in-Some : goal.returns-in-Some
+returns-in-Some c =
+    let a = c.args in c.places_in.ensures ∙ places-from a.body.now a.at (Ok (Some _)) (ap Ok (sym c.in-Some.is) ∙ c.in_ok-start.ensures)
 
-pub returns-in-Malformed : goal.returns-in-Malformed
-returns-in-Malformed c =
-    let a = c.args in
-    places-from a.body.now a.at _ (sym c.in-Malformed.is ∙ c.properties_at.ensures)
+pub returns-in-None : goal.returns-in-None
+returns-in-None c = let a = c.args in places-from a.body.now a.at (Ok None) (ap Ok (sym c.in-None.is) ∙ c.in_ok-start.ensures)

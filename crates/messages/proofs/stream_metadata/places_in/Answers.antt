@@ -1,61 +1,60 @@
 -- `messages::stream_metadata::places_in` meets its contract. The loop keeps that the last property of each field's name is the last from i on, or
 -- else the one whose place is kept.
 -- Assumes nothing.
-use native.Mathlib.Omega.{arith}
-use mathlib.Core.Path.{◌≡◌, sym, ap, ◌∙◌}
+use Rattle.std.proofs.Common.{◌≡◌, arith, sym, ap, ◌∙◌}
+use Rattle.std.specs.Prelude.{Some, None, Ok}
 use Rattle.octets.specs.Compare.{part}
 use Rattle.amf0.proofs.FindLaws.{PropertyRead, property-says}
+use Rattle.amf0.proofs.PlaceLaws.{err-is}
 use Rattle.messages.specs.Metadata.{field_index}
-use Rattle.messages.proofs.PlacesLaws.{keeps-none, keeps_hit, keeps_miss, kept, none_kept}
+use Rattle.messages.proofs.PlacesLaws.{index_below, keeps-none, keeps_hit, keeps_miss, kept, none_kept}
 use Rattle.messages.proofs.stream_metadata.places_in.Goals as goal
-use Rattle.messages.proofs.stream_metadata.places_in.Goals.{After-field_index-k, In-At}
+use Rattle.messages.proofs.stream_metadata.places_in.Goals.{In-Some, In-Some-field_index}
 
-pub loop-places-init : goal.loop-places-init
-loop-places-init c = keeps-none _ _
+pub loop-name-init : goal.loop-name-init
+loop-name-init c = keeps-none _ _
 
 -- the property that was read
-read : (c : In-At) →
-    PropertyRead c.args.body.now c.loop-places.i c.in-At.start
-    c.in-At.len c.in-At.next
-read c =
-    property-says c.args.body.now c.loop-places.i _
-    (sym c.in-At.is ∙ c.property_at.ensures)
-
-pub returns-in-End : goal.returns-in-End
-returns-in-End c =
-    let a = c.args in
-    let v = c.loop-places in
-    kept a.body.now v.invariant
-    (property-says a.body.now v.i _ (sym c.in-End.is ∙ c.property_at.ensures)).1
+read : (c : In-Some) → PropertyRead c.args.body.now c.loop-name.i c.in-Some.field-0.name.start c.in-Some.field-0.name.len c.in-Some.field-0.next
+read c = property-says c.args.body.now c.loop-name.i (Ok (Some c.in-Some.field-0)) (ap Ok (sym c.in-Some.is) ∙ c.in_ok-name.ensures)
 
 -- the field whose name it has
-index : (c : After-field_index-k) →
-    c.field_index-k.result ≡ field_index (part c.args.body.now c.in-At.start c.in-At.len)
-index c = c.field_index-k.ensures ∙ ap field_index c.part.ensures
+index : (c : In-Some-field_index)
+    → Some c.in-Some-field_index.k ≡ field_index (part c.args.body.now c.in-Some.field-0.name.start c.in-Some.field-0.name.len)
+index c = sym c.in-Some-field_index.is ∙ c.field_index.ensures ∙ ap field_index c.part.ensures
+
+pub returns-in_err-name : goal.returns-in_err-name
+returns-in_err-name c =
+    err-is _ c.from_residual.ensures.0 ∙ none_kept c.args.body.now c.loop-name.invariant (property-says c.args.body.now c.loop-name.i _ c.in_err-name.ensures)
 
 pub overflow_add-places : goal.overflow_add-places
-overflow_add-places c = omega (arith, (read (goal.at.overflow_add-places c).In-At).named.within)
+overflow_add-places c = omega (arith, (read (goal.at.overflow_add-places c).In-Some).named.within)
 
-pub overflow_add-places-then-k-lt11 : goal.overflow_add-places-then-k-lt11
-overflow_add-places-then-k-lt11 c = let p = read (goal.at.overflow_add-places-then-k-lt11 c).In-At in omega (arith, p.valued.past, p.valued.within)
+pub offset_bounds-places-k : goal.offset_bounds-places-k
+offset_bounds-places-k c = omega (arith, index_below _ _ (index (goal.at.offset_bounds-places-k c).In-Some-field_index))
 
-pub loop-places-smaller-then-k-lt11 : goal.loop-places-smaller-then-k-lt11
-loop-places-smaller-then-k-lt11 c = let p = read (goal.at.loop-places-smaller-then-k-lt11 c).In-At in omega (arith, p.named.past, p.valued.past, p.valued.within)
+pub bounds-places-k : goal.bounds-places-k
+bounds-places-k c = index_below _ _ (index (goal.at.bounds-places-k c).In-Some-field_index)
 
-pub loop-places-preserved-then-k-lt11 : goal.loop-places-preserved-then-k-lt11
-loop-places-preserved-then-k-lt11 c =
-    keeps_hit _ c.loop-places.invariant (read (goal.at.loop-places-preserved-then-k-lt11 c).In-At) _ (index (goal.at.loop-places-preserved-then-k-lt11 c).After-field_index-k) c.if-k-lt11.true
+pub loop-name-smaller-in-Some-field_index : goal.loop-name-smaller-in-Some-field_index
+loop-name-smaller-in-Some-field_index c =
+    let p = read (goal.at.loop-name-smaller-in-Some-field_index c).In-Some in omega (arith, p.named.past, p.valued.past, p.valued.within)
 
-pub loop-places-smaller : goal.loop-places-smaller
-loop-places-smaller c = let p = read (goal.at.loop-places-smaller c).In-At in omega (arith, p.named.past, p.valued.past, p.valued.within)
+pub loop-name-preserved-in-Some-field_index : goal.loop-name-preserved-in-Some-field_index
+loop-name-preserved-in-Some-field_index c =
+    let b = goal.at.loop-name-preserved-in-Some-field_index c in
+    keeps_hit _ c.loop-name.invariant (read b.In-Some) _ (index b.In-Some-field_index)
 
-pub loop-places-preserved : goal.loop-places-preserved
-loop-places-preserved c =
-    keeps_miss _ c.loop-places.invariant (read (goal.at.loop-places-preserved c).In-At) _ (index (goal.at.loop-places-preserved c).After-field_index-k) c.if-k-lt11.false
+pub loop-name-smaller : goal.loop-name-smaller
+loop-name-smaller c =
+    let p = read (goal.at.loop-name-smaller c).In-Some in omega (arith, p.named.past, p.valued.past, p.valued.within)
 
-pub returns-in-Malformed : goal.returns-in-Malformed
-returns-in-Malformed c =
-    let a = c.args in
-    let v = c.loop-places in
-    none_kept a.body.now v.invariant
-    (property-says a.body.now v.i _ (sym c.in-Malformed.is ∙ c.property_at.ensures))
+pub loop-name-preserved : goal.loop-name-preserved
+loop-name-preserved c =
+    keeps_miss _ c.loop-name.invariant (read (goal.at.loop-name-preserved c).In-Some)
+    (sym c.in_default-field_index.is ∙ c.field_index.ensures ∙ ap field_index c.part.ensures)
+
+pub returns : goal.returns
+returns c =
+    kept c.args.body.now c.loop-name.invariant
+    (property-says c.args.body.now c.loop-name.i (Ok None) (ap Ok (sym c.in_default.is) ∙ c.in_ok-name.ensures)).1

@@ -1,48 +1,43 @@
 -- `messages::user_control::set_buffer_length` meets its contract: two numbers of 4 bytes, the second of which takes every byte that is left.
 -- Assumes nothing.
-use Prim.Native.Nat.{ℕ}
-use mathlib.Core.Path.{◌≡◌, sym, ap, ◌∙◌}
-use mathlib.Core.List.{List}
-use lib.ListN.{drop}
+use Rattle.std.proofs.Common.{◌≡◌, ℕ, drop, ap, ◌∙◌}
 use Rattle.octets.specs.BigEndian.{uint}
-use Rattle.octets.specs.declared.big_endian.Be32.TheVariants.{Is, Short}
-use Rattle.amf0.proofs.CutLaws.{clash}
-use Rattle.amf0.proofs.PlaceLaws.{uint-read, uint-none}
+use Rattle.amf0.proofs.PlaceLaws.{err-is, outcome-none, uint-read, or-malformed}
 use Rattle.messages.specs.Incoming.{Incoming, user_control, whole, buffer_length}
 use Rattle.messages.specs.Places.{placed}
 use Rattle.messages.specs.declared.rtmp_message.UserControlEvent.TheVariants.{SetBufferLength}
 use Rattle.messages.proofs.WholeLaws.{whole-then, word-is, word_short}
 use Rattle.messages.proofs.user_control.set_buffer_length.Goals as goal
-use Rattle.messages.proofs.user_control.set_buffer_length.Goals.{In-Is}
+use Rattle.messages.proofs.user_control.set_buffer_length.Goals.{In_ok-ok_or}
 
-pub returns-in_default : goal.returns-in_default
+pub returns-in_err-ok_or : goal.returns-in_err-ok_or
 unfolding placed
-returns-in_default c =
+returns-in_err-ok_or c =
     let s = c.args.body.now in
-    rw (uint-none Short Is (uint 4 (drop 2 s)) (λ y e. clash (cc)) (sym c.in_default.is ∙ c.read_be32.ensures))
+    err-is _ c.from_residual.ensures.0 ∙ rw (outcome-none (uint 4 (drop 2 s)) (c.in_err-ok_or.ensures.value ∙ or-malformed _ _ c.read_be32.ensures))
 
 abbrev length_of : ℕ → ℕ → Incoming
 length_of n l = user_control (SetBufferLength (record { 0 = n }) l)
 
 -- from where the stream is bound on
-abbrev bytes : In-Is → List ℕ
-bytes c = c.args.body.now
-
-abbrev stream : In-Is → ℕ
-stream c = c.in-Is.stream
-
-read : (c : In-Is) → whole user_control (buffer_length (drop 2 (bytes c))) ≡ whole (length_of (stream c)) (uint 4 (drop 6 (bytes c)))
+read : (c : In_ok-ok_or) → let s = c.args.body.now in
+    whole user_control (buffer_length (drop 2 s)) ≡ whole (length_of c.in_ok-ok_or.field-0) (uint 4 (drop 6 s))
 read c =
-    rw (uint-read Short Is 4 (bytes c) 2 (stream c) (λ y e. cc) (λ e. clash (cc))
-    (sym c.in-Is.is ∙ c.read_be32.ensures)).is
-    (whole-then user_control (λ l. SetBufferLength (record { 0 = stream c }) l) (uint 4 (drop 6 (bytes c))))
+    let s = c.args.body.now in
+    rw (uint-read 4 s 2 _ (c.in_ok-ok_or.ensures.value ∙ or-malformed _ _ c.read_be32.ensures)).is
+    (whole-then user_control (λ l. SetBufferLength (record { 0 = c.in_ok-ok_or.field-0 }) l) (uint 4 (drop 6 s)))
 
-pub returns-in_default-last_word : goal.returns-in_default-last_word
+pub returns-in_err-length : goal.returns-in_err-length
 unfolding placed
-returns-in_default-last_word c =
-    rw (read (goal.at.returns-in_default-last_word c).In-Is) (ap (placed (bytes (goal.at.returns-in_default-last_word c).In-Is)) (word_short (length_of (stream (goal.at.returns-in_default-last_word c).In-Is)) (drop 6 (bytes (goal.at.returns-in_default-last_word c).In-Is)) (sym c.in_default-last_word.is ∙ c.last_word.ensures)))
+returns-in_err-length c =
+    let s = c.args.body.now in
+    let b = (goal.at.returns-in_err-length c).In_ok-ok_or in
+    err-is _ c.from_residual-in_err-length.ensures.0
+    ∙ rw (read b) (ap (placed s) (word_short (length_of b.in_ok-ok_or.field-0) (drop 6 s) c.in_err-length.ensures))
 
 pub returns : goal.returns
 unfolding placed
 returns c =
-    rw (read (goal.at.returns c).In-Is) (ap (placed (bytes (goal.at.returns c).In-Is)) (word-is (length_of (stream (goal.at.returns c).In-Is)) (drop 6 (bytes (goal.at.returns c).In-Is)) (sym c.in-Is-last_word.is ∙ c.last_word.ensures)))
+    let s = c.args.body.now in
+    let b = (goal.at.returns c).In_ok-ok_or in
+    rw (read b) (ap (placed s) (word-is (length_of b.in_ok-ok_or.field-0) (drop 6 s) c.in_ok-length.ensures))
