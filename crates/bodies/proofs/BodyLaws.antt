@@ -6,6 +6,7 @@ use mathlib.Core.Path.{◌≡◌}
 use mathlib.Core.Bool.{Bool, true, false, cond}
 use mathlib.Core.List.{List, ◌++◌, append_assoc}
 use lib.ListN.{length, length-append}
+use Rattle.octets.specs.declared.output.Writer.{Writer}
 use Rattle.octets.specs.Output.{Put}
 use Rattle.octets.proofs.BigEndianLaws.{length_digits}
 use Rattle.octets.proofs.OutputLaws.{then}
@@ -19,18 +20,18 @@ use Rattle.messages.specs.declared.rtmp_message.UserControlEvent.TheVariants.{Se
 use Rattle.bodies.specs.Bodies.{command_values, tc_url_prop, connect_body, create_stream_body, delete_stream_body, play_body, publish_name, publish_body, control_body}
 
 -- a command's name and number, and then the rest
-pub head-put : (name : List ℕ) (x : ℕ) (vs : Values) {o n m : List ℕ} {i j k : ℕ}
-    → Put o i (encode (text name) ++ encode (number x)) n j → Put n j (encode_values vs) m k → Put o i (encode_values (cons (text name) (cons (number x) vs))) m k
+pub head-put : (name : List ℕ) (x : ℕ) (vs : Values) {o m n : Writer}
+    → Put o (encode (text name) ++ encode (number x)) m → Put m (encode_values vs) n → Put o (encode_values (cons (text name) (cons (number x) vs))) n
 unfolding encode
 head-put name x vs p q = rw (append_assoc (encode (text name)) (encode (number x)) (encode_values vs)) at (then p q)
 
 -- the last value
-pub last-put : (v : Value) {o m : List ℕ} {i k : ℕ} → Put o i (encode v) m k → Put o i (encode_values (cons v nil)) m k
+pub last-put : (v : Value) {o n : Writer} → Put o (encode v) n → Put o (encode_values (cons v nil)) n
 last-put v p = cons-put v nil p nil-put
 
 -- a command with null for its object, and then its arguments
-pub args-put : (name : List ℕ) (x : ℕ) (args : Values) {o n m : List ℕ} {i j k : ℕ}
-    → Put o i (encode_values (command_values name x null nil)) n j → Put n j (encode_values args) m k → Put o i (encode_values (command_values name x null args)) m k
+pub args-put : (name : List ℕ) (x : ℕ) (args : Values) {o m n : Writer}
+    → Put o (encode_values (command_values name x null nil)) m → Put m (encode_values args) n → Put o (encode_values (command_values name x null args)) n
 args-put name x args p q = joined-put (command_values name x null nil) args p q
 
 length-tc_url : (has : Bool) (url : List ℕ) → length (encode_props (tc_url_prop has url)) ≡ cond has (length url + 10) 0 + 3

@@ -5,8 +5,8 @@ use Prim.Native.Nat.{ℕ, zero, suc, ◌^◌, ◌<◌}
 use native.Mathlib.Omega.{arith}
 use mathlib.Core.Path.{◌≡◌, refl, ap}
 use mathlib.Core.List.{List, [], ◌∷◌, ◌++◌, Memᴰ}
-use mathlib.Core.Option.{none, some}
 use lib.ListN.{length, drop, get_or}
+use Rattle.std.specs.Prelude.{Some, None, Option, Bool, Float}
 use Rattle.octets.specs.Compare.{part}
 use Rattle.octets.specs.Parse.{Parse, got}
 use Rattle.numbers.proofs.Laws.{held-number_of, narrowed-sent}
@@ -14,19 +14,12 @@ use Rattle.amf0.specs.Value.{text, object}
 use Rattle.amf0.specs.Decode.{Property, top_value}
 use Rattle.amf0.specs.Encode.{encode}
 use Rattle.amf0.specs.Lookup.{property, properties_at}
-use Rattle.amf0.specs.Places.{kind_of, only_text, stretch}
+use Rattle.amf0.specs.Places.{kind_of, stretch}
 use Rattle.amf0.specs.declared.kinds.Kind.{Kind}
-use Rattle.amf0.specs.declared.properties.TextAt.{TextAt}
-use Rattle.amf0.specs.declared.properties.TextAt.TheVariants as at
+use Rattle.octets.specs.declared.span.Span.{Span}
 use Rattle.amf0.proofs.RoundTrip.{round}
 use Rattle.messages.proofs.FieldLaws.{FieldStands, field-stands}
-use Rattle.messages.specs.Metadata.{field_kind, whole_field, rate_field, flag_field, metadata_in, metadata_at}
-use Rattle.messages.specs.declared.stream_metadata.OptionU32.{OptionU32}
-use Rattle.messages.specs.declared.stream_metadata.OptionU32.TheVariants as u32
-use Rattle.messages.specs.declared.stream_metadata.OptionF32.{OptionF32}
-use Rattle.messages.specs.declared.stream_metadata.OptionF32.TheVariants as f32
-use Rattle.messages.specs.declared.stream_metadata.OptionBool.{OptionBool}
-use Rattle.messages.specs.declared.stream_metadata.OptionBool.TheVariants as flag
+use Rattle.messages.specs.Metadata.{field_kind, whole_field, rate_field, flag_field, text_field, metadata_in, metadata_at}
 use Rattle.messages.specs.declared.stream_metadata.StreamMetadata.{StreamMetadata}
 use Rattle.bodies.specs.MetadataBody.{metadata_props}
 use Rattle.bodies.specs.Fields.{whole_value, rate_value, flag_value, text_value, Field, fields}
@@ -34,30 +27,30 @@ use Rattle.bodies.proofs.CommandRound.{Sendable}
 use Rattle.bodies.proofs.MetadataRound.{field-round, RateFits, object-fits}
 
 -- ---- a field that is read is the field that was sent
-abbrev pub WholeFits : OptionU32 → Type 0
-WholeFits (u32.Some n) = n < 2 ^ 32
-WholeFits u32.None = Unit {0}
+abbrev pub WholeFits : Option ℕ → Type 0
+WholeFits (Some n) = n < 2 ^ 32
+WholeFits None = Unit {0}
 
-module _ (b : List ℕ) (k : Kind) where
-  whole_back : (v : OptionU32) → WholeFits v → FieldStands b (whole_value v) k → whole_field k ≡ v
+module _ (b : List ℕ) (k : Option Kind) where
+  whole_back : (v : Option ℕ) → WholeFits v → FieldStands b (whole_value v) k → whole_field k ≡ v
   unfolding kind_of
-  whole_back (u32.Some n) h t = rw t.is (ap u32.Some (held-number_of n h))
-  whole_back u32.None h t = rw t.is
+  whole_back (Some n) h t = rw t.is (ap Some (held-number_of n h))
+  whole_back None h t = rw t.is
 
-  rate_back : (v : OptionF32) → RateFits v → FieldStands b (rate_value v) k → rate_field k ≡ v
+  rate_back : (v : Option Float) → RateFits v → FieldStands b (rate_value v) k → rate_field k ≡ v
   unfolding kind_of
-  rate_back (f32.Some x) h t = rw t.is (ap f32.Some (narrowed-sent x h))
-  rate_back f32.None h t = rw t.is
+  rate_back (Some x) h t = rw t.is (ap Some (narrowed-sent x h))
+  rate_back None h t = rw t.is
 
-  flag_back : (v : OptionBool) → FieldStands b (flag_value v) k → flag_field k ≡ v
+  flag_back : (v : Option Bool) → FieldStands b (flag_value v) k → flag_field k ≡ v
   unfolding kind_of
-  flag_back (flag.Some x) t = rw t.is
-  flag_back flag.None t = rw t.is
+  flag_back (Some x) t = rw t.is
+  flag_back None t = rw t.is
 
-  text-back : (s : List ℕ) (v : TextAt) → FieldStands b (text_value s v) k → text_value b (only_text k) ≡ text_value s v
+  text-back : (s : List ℕ) (v : Option Span) → FieldStands b (text_value s v) k → text_value b (text_field k) ≡ text_value s v
   unfolding kind_of
-  text-back s (at.At start len) t = rw t.is (ap (λ (x : List ℕ). some (text x)) (t.lies (part s start len) refl).is)
-  text-back s at.Absent t = rw t.is
+  text-back s (Some p) t = rw t.is (ap (λ (x : List ℕ). Some (text x)) (t.lies (part s p.start p.len) refl).is)
+  text-back s None t = rw t.is
 
 -- ---- all of them
 member : (fs : List Field) (k : ℕ) (other : Field) → k < length fs → Memᴰ (get_or fs k other) fs
@@ -79,7 +72,7 @@ pub record Sound (s : List ℕ) (m : StreamMetadata) : Type 0 where
   pub encoder : Sendable (stretch s m.encoder)
 
 -- m with its encoder elsewhere
-abbrev pub with_encoder : StreamMetadata → TextAt → StreamMetadata
+abbrev pub with_encoder : StreamMetadata → Option Span → StreamMetadata
 with_encoder m e =
     record {
       video_width = m.video_width;
@@ -101,7 +94,7 @@ module _ (s : List ℕ) (m : StreamMetadata) (f : Sound s m) (b : List ℕ) (at 
   Q = properties_at (drop at b)
 
   abbrev other : Field
-  other = record { name = []; value = none }
+  other = record { name = []; value = None }
 
   nth : (k : ℕ) → k < 11 → FieldStands b (get_or (fields s m) k other).value (field_kind b (get_or (fields s m) k other).name Q)
   unfolding property

@@ -6,12 +6,12 @@ use native.Mathlib.Omega.{arith}
 use mathlib.Core.Path.{◌≡◌, refl, sym, ap, ◌∙◌}
 use mathlib.Core.Bool.{Bool, true, false, not, ◌&&◌, ◌||◌}
 use mathlib.Core.List.{List, [], ◌∷◌, Memᴰ}
-use mathlib.Core.Option.{Option, none, some}
 use lib.Dec.{T, ltb}
 use lib.ListN.{length}
 use lib.Ieee.{binary32, fits}
 use lib.Ieee.Fits.{fits_widens}
 use borrow.Author.Tests.{ltb-true, not-true}
+use Rattle.std.specs.Prelude.{Option, Some, None, Float}
 use Rattle.octets.specs.Compare.{ascii, same}
 use Rattle.octets.proofs.CompareLaws.{same-ne, ne_same, eq-same}
 use Rattle.octets.proofs.Utf8Laws.{all_ascii}
@@ -20,16 +20,9 @@ use Rattle.amf0.specs.Value.{Value, text, object, Props, nil, cons}
 use Rattle.amf0.specs.Encode.{encode_values, Within, PropsWithin, ValuesWithin}
 use Rattle.amf0.specs.Lookup.{lookup}
 use Rattle.amf0.specs.Places.{stretch}
-use Rattle.amf0.specs.declared.properties.TextAt.{TextAt}
-use Rattle.amf0.specs.declared.properties.TextAt.TheVariants as at
+use Rattle.octets.specs.declared.span.Span.{Span}
 use Rattle.amf0.proofs.RoundTrip.{next_round, values-round}
 use Rattle.messages.specs.Incoming.{values, data_of, decode}
-use Rattle.messages.specs.declared.stream_metadata.OptionU32.{OptionU32}
-use Rattle.messages.specs.declared.stream_metadata.OptionU32.TheVariants as u32
-use Rattle.messages.specs.declared.stream_metadata.OptionF32.{OptionF32}
-use Rattle.messages.specs.declared.stream_metadata.OptionF32.TheVariants as f32
-use Rattle.messages.specs.declared.stream_metadata.OptionBool.{OptionBool}
-use Rattle.messages.specs.declared.stream_metadata.OptionBool.TheVariants as flag
 use Rattle.messages.specs.declared.stream_metadata.StreamMetadata.{StreamMetadata}
 use Rattle.bodies.specs.MetadataBody.{metadata_props, metadata_values, metadata_body}
 use Rattle.bodies.specs.Fields.{whole_value, rate_value, flag_value, text_value, Field, fields, prop_if, present}
@@ -73,22 +66,22 @@ unfolding same
 names_proper s m = refl
 
 -- ---- each name has its value
-here : (n : List ℕ) (o : Option Value) (ps : Props) → lookup n ps ≡ none → lookup n (prop_if n o ps) ≡ o
+here : (n : List ℕ) (o : Option Value) (ps : Props) → lookup n ps ≡ None → lookup n (prop_if n o ps) ≡ o
 unfolding lookup prop_if
-here n none ps h = h
-here n (some v) ps h = rw (h, eq-same {a = n} refl)
+here n None ps h = h
+here n (Some v) ps h = rw (h, eq-same {a = n} refl)
 
 there : (n k : List ℕ) (o : Option Value) (ps : Props) (w : Option Value) → same k n ≡ false → lookup n ps ≡ w → lookup n (prop_if k o ps) ≡ w
 unfolding lookup prop_if
-there n k none ps w e h = h
-there n k (some v) ps none e h = rw (h, e)
-there n k (some v) ps (some w) e h = rw h
+there n k None ps w e h = h
+there n k (Some v) ps None e h = rw (h, e)
+there n k (Some v) ps (Some w) e h = rw h
 
-missing : (n : List ℕ) (fs : List Field) → has_name n fs ≡ false → lookup n (present fs) ≡ none
+missing : (n : List ℕ) (fs : List Field) → has_name n fs ≡ false → lookup n (present fs) ≡ None
 unfolding lookup prop_if
 missing n [] h = refl
 missing n (f ∷ fs) h =
-    let e = neither (same f.name n) (has_name n fs) h in there n f.name f.value (present fs) none e.0 (missing n fs e.1)
+    let e = neither (same f.name n) (has_name n fs) h in there n f.name f.value (present fs) None e.0 (missing n fs e.1)
 
 other_name : (n : List ℕ) (f : Field) (fs : List Field) → has_name n fs ≡ false → Memᴰ f fs → same n f.name ≡ false
 other_name n f [] h x'' = elim x'' [ ]
@@ -108,8 +101,8 @@ field-round s m f h = rw (props_are s m) (found (fields s m) (names_proper s m) 
 
 -- ---- the values are within the limits
 abbrev ValueFits : Option Value → Type 0
-ValueFits none = Unit {0}
-ValueFits (some v) = Within v 7
+ValueFits None = Unit {0}
+ValueFits (Some v) = Within v 7
 
 abbrev ValuesFit : List Field → Type 0
 ValuesFit [] = Unit {0}
@@ -118,8 +111,8 @@ ValuesFit (f ∷ fs) = ValueFits f.value × ValuesFit fs
 if-within : (n : List ℕ) (o : Option Value) (ps : Props) → 0 < length n → length n < 2 ^ 16 → all_ascii n ≡ true → ValueFits o → PropsWithin ps 7
     → PropsWithin (prop_if n o ps) 7
 unfolding prop_if
-if-within n none ps p l a v h = h
-if-within n (some v) ps p l a w h = prop-within n v ps p l a w h
+if-within n None ps p l a v h = h
+if-within n (Some v) ps p l a w h = prop-within n v ps p l a w h
 
 present-within : (fs : List Field) → proper fs ≡ true → ValuesFit fs → PropsWithin (present fs) 7
 unfolding Within
@@ -129,28 +122,28 @@ present-within (f ∷ fs) h v =
     if-within f.name f.value (present fs) k.some_bytes k.few_bytes k.chars v.0 (present-within fs k.others v.1)
 
 -- a rate is a single
-abbrev pub RateFits : OptionF32 → Type 0
-RateFits (f32.Some x) = T (fits binary32 x)
-RateFits f32.None = Unit {0}
+abbrev pub RateFits : Option Float → Type 0
+RateFits (Some x) = T (fits binary32 x)
+RateFits None = Unit {0}
 
-whole-fits : (v : OptionU32) → ValueFits (whole_value v)
-whole-fits (u32.Some n) = number-within n 7 (omega arith)
-whole-fits u32.None = tt
+whole-fits : (v : Option ℕ) → ValueFits (whole_value v)
+whole-fits (Some n) = number-within n 7 (omega arith)
+whole-fits None = tt
 
-rate-fits : (v : OptionF32) → RateFits v → ValueFits (rate_value v)
+rate-fits : (v : Option Float) → RateFits v → ValueFits (rate_value v)
 unfolding Within
-rate-fits (f32.Some x) h = (omega arith, sent-lt x (fits_widens x h))
-rate-fits f32.None h = tt
+rate-fits (Some x) h = (omega arith, sent-lt x (fits_widens x h))
+rate-fits None h = tt
 
-flag-fits : (v : OptionBool) → ValueFits (flag_value v)
+flag-fits : (v : Option Bool) → ValueFits (flag_value v)
 unfolding Within
-flag-fits (flag.Some b) = omega arith
-flag-fits flag.None = tt
+flag-fits (Some b) = omega arith
+flag-fits None = tt
 
-text-fits : (s : List ℕ) (v : TextAt) → Sendable (stretch s v) → ValueFits (text_value s v)
+text-fits : (s : List ℕ) (v : Option Span) → Sendable (stretch s v) → ValueFits (text_value s v)
 unfolding stretch
-text-fits s (at.At start len) h = text-within 7 (omega arith) h
-text-fits s at.Absent h = tt
+text-fits s (Some p) h = text-within 7 (omega arith) h
+text-fits s None h = tt
 
 module _ (s : List ℕ) (m : StreamMetadata) (r : RateFits m.video_frame_rate) (e : Sendable (stretch s m.encoder)) where
   values-fit : ValuesFit (fields s m)

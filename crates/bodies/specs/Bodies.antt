@@ -1,6 +1,7 @@
 -- The bodies that a client sends: RTMP 1.0 sections 5.4, 7.1.7 and 7.2, and document 01, "The session's work".
 -- Assumes nothing.
-use Rattle.std.specs.Prelude.{ℕ, Bool, true, false, List, ◌++◌}
+use Rattle.std.specs.Prelude.{ℕ, Bool, true, false, Option, Some, None, List, [], ◌++◌}
+use Rattle.std.specs.Borrow.{Bor}
 use Rattle.octets.specs.BigEndian.{digits}
 use Rattle.octets.specs.Compare.{ascii}
 use Rattle.numbers.specs.Numbers.{number_of}
@@ -15,6 +16,15 @@ use Rattle.messages.specs.declared.rtmp_message.UserControlEvent.TheVariants.{St
 -- section 7.1.1: a command's name, its number, an object or null, and its arguments
 abbrev pub command_values : List ℕ → ℕ → Value → Values → Values
 command_values name n v args = cons (text name) (cons (number (number_of n)) (cons v args))
+
+-- a text that a caller may leave out: whether it is given, and its bytes
+abbrev pub is_given : Option (Bor (List ℕ)) → Bool
+is_given (Some url) = true
+is_given None = false
+
+abbrev pub url_bytes : Option (Bor (List ℕ)) → List ℕ
+url_bytes (Some url) = url.now
+url_bytes None = []
 
 -- a property that is sent where it is configured
 abbrev pub tc_url_prop : Bool → List ℕ → Props

@@ -1,41 +1,33 @@
 -- The eleven fields of metadata with the names and values that they are sent under. `proofs/MetadataRound.antt` shows that each name's value is
 -- what stands in the object that is sent.
 -- Assumes nothing.
-use Rattle.std.specs.Prelude.{ℕ, List, [], ◌∷◌, ◌++◌}
-use Rattle.std.proofs.Math.Option.{Option, none, some}
+use Rattle.std.specs.Prelude.{ℕ, List, [], ◌∷◌, ◌++◌, Option, Some, None, Bool, Float}
 use Rattle.std.specs.Float.{binary64}
 use Rattle.std.specs.Float.Ieee.{to_bits}
 use Rattle.octets.specs.Compare.{ascii, part}
 use Rattle.numbers.specs.Numbers.{number_of}
 use Rattle.amf0.specs.Value.{Value, number, boolean, text, Props, end, prop}
 use Rattle.amf0.specs.Encode.{text_bytes, encode}
-use Rattle.amf0.specs.declared.properties.TextAt.{TextAt}
-use Rattle.amf0.specs.declared.properties.TextAt.TheVariants as at
-use Rattle.messages.specs.declared.stream_metadata.OptionU32.{OptionU32}
-use Rattle.messages.specs.declared.stream_metadata.OptionU32.TheVariants as u32
-use Rattle.messages.specs.declared.stream_metadata.OptionF32.{OptionF32}
-use Rattle.messages.specs.declared.stream_metadata.OptionF32.TheVariants as f32
-use Rattle.messages.specs.declared.stream_metadata.OptionBool.{OptionBool}
-use Rattle.messages.specs.declared.stream_metadata.OptionBool.TheVariants as flag
+use Rattle.octets.specs.declared.span.Span.{Span}
 use Rattle.messages.specs.declared.stream_metadata.StreamMetadata.{StreamMetadata}
 
 -- the value that a field is sent as, or none where it is absent
-abbrev pub whole_value : OptionU32 → Option Value
-whole_value (u32.Some n) = some (number (number_of n))
-whole_value u32.None = none
+abbrev pub whole_value : Option ℕ → Option Value
+whole_value (Some n) = Some (number (number_of n))
+whole_value None = None
 
-abbrev pub rate_value : OptionF32 → Option Value
-rate_value (f32.Some x) = some (number (to_bits binary64 x))
-rate_value f32.None = none
+abbrev pub rate_value : Option Float → Option Value
+rate_value (Some x) = Some (number (to_bits binary64 x))
+rate_value None = None
 
-abbrev pub flag_value : OptionBool → Option Value
-flag_value (flag.Some b) = some (boolean b)
-flag_value flag.None = none
+abbrev pub flag_value : Option Bool → Option Value
+flag_value (Some b) = Some (boolean b)
+flag_value None = None
 
 -- a text that lies in s
-abbrev pub text_value : List ℕ → TextAt → Option Value
-text_value s (at.At start len) = some (text (part s start len))
-text_value s at.Absent = none
+abbrev pub text_value : List ℕ → Option Span → Option Value
+text_value s (Some p) = Some (text (part s p.start p.len))
+text_value s None = None
 
 pub record Field : Type 0 where
   pub name : List ℕ
@@ -70,8 +62,8 @@ fields s m = video_fields m ++ (rate_fields m ++ last_fields s m)
 
 -- the bytes of a property that may be absent, and of several
 unfoldable pub field_bytes : List ℕ → Option Value → List ℕ
-field_bytes name none = []
-field_bytes name (some v) = text_bytes name ++ encode v
+field_bytes name None = []
+field_bytes name (Some v) = text_bytes name ++ encode v
 
 abbrev pub fields_bytes : List Field → List ℕ
 fields_bytes [] = []
@@ -79,8 +71,8 @@ fields_bytes (f ∷ fs) = field_bytes f.name f.value ++ fields_bytes fs
 
 -- a property before the others, or only the others where it is absent
 unfoldable pub prop_if : List ℕ → Option Value → Props → Props
-prop_if name none ps = ps
-prop_if name (some v) ps = prop name v ps
+prop_if name None ps = ps
+prop_if name (Some v) ps = prop name v ps
 
 -- the properties that are present
 abbrev pub present : List Field → Props

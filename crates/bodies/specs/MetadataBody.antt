@@ -1,40 +1,33 @@
 -- Metadata as it is sent: `@setDataFrame`, `onMetaData` and an object with the fields that are present, in document 01's order.
 -- Assumes nothing.
-use Rattle.std.specs.Prelude.{ℕ, List}
+use Rattle.std.specs.Prelude.{ℕ, List, Option, Some, None, Bool, Float}
 use Rattle.std.specs.Float.{binary64}
 use Rattle.std.specs.Float.Ieee.{to_bits}
 use Rattle.octets.specs.Compare.{ascii, part}
 use Rattle.numbers.specs.Numbers.{number_of}
 use Rattle.amf0.specs.Value.{number, boolean, text, object, Props, end, prop, Values, nil, cons}
 use Rattle.amf0.specs.Encode.{encode_values}
-use Rattle.amf0.specs.declared.properties.TextAt.{TextAt}
-use Rattle.amf0.specs.declared.properties.TextAt.TheVariants as at
-use Rattle.messages.specs.declared.stream_metadata.OptionU32.{OptionU32}
-use Rattle.messages.specs.declared.stream_metadata.OptionU32.TheVariants as u32
-use Rattle.messages.specs.declared.stream_metadata.OptionF32.{OptionF32}
-use Rattle.messages.specs.declared.stream_metadata.OptionF32.TheVariants as f32
-use Rattle.messages.specs.declared.stream_metadata.OptionBool.{OptionBool}
-use Rattle.messages.specs.declared.stream_metadata.OptionBool.TheVariants as flag
+use Rattle.octets.specs.declared.span.Span.{Span}
 use Rattle.messages.specs.declared.stream_metadata.StreamMetadata.{StreamMetadata}
 
 -- a field before the others, or only the others where it is absent
-unfoldable pub whole_prop : List ℕ → OptionU32 → Props → Props
-whole_prop name (u32.Some n) ps = prop name (number (number_of n)) ps
-whole_prop name u32.None ps = ps
+unfoldable pub whole_prop : List ℕ → Option ℕ → Props → Props
+whole_prop name (Some n) ps = prop name (number (number_of n)) ps
+whole_prop name None ps = ps
 
 -- a single widens without loss; a NaN's pattern is 7ff8000000000000
-unfoldable pub rate_prop : List ℕ → OptionF32 → Props → Props
-rate_prop name (f32.Some x) ps = prop name (number (to_bits binary64 x)) ps
-rate_prop name f32.None ps = ps
+unfoldable pub rate_prop : List ℕ → Option Float → Props → Props
+rate_prop name (Some x) ps = prop name (number (to_bits binary64 x)) ps
+rate_prop name None ps = ps
 
-unfoldable pub flag_prop : List ℕ → OptionBool → Props → Props
-flag_prop name (flag.Some b) ps = prop name (boolean b) ps
-flag_prop name flag.None ps = ps
+unfoldable pub flag_prop : List ℕ → Option Bool → Props → Props
+flag_prop name (Some b) ps = prop name (boolean b) ps
+flag_prop name None ps = ps
 
 -- a text that lies in s
-unfoldable pub text_prop : List ℕ → List ℕ → TextAt → Props → Props
-text_prop s name (at.At start len) ps = prop name (text (part s start len)) ps
-text_prop s name at.Absent ps = ps
+unfoldable pub text_prop : List ℕ → List ℕ → Option Span → Props → Props
+text_prop s name (Some p) ps = prop name (text (part s p.start p.len)) ps
+text_prop s name None ps = ps
 
 unfoldable pub metadata_props : List ℕ → StreamMetadata → Props
 metadata_props s m =

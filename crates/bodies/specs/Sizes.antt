@@ -1,7 +1,6 @@
 -- How many bytes the fields of metadata take, for the space test of the whole body.
 -- Assumes nothing.
-use Rattle.std.specs.Prelude.{ℕ, ◌+◌, List, length}
-use Rattle.std.proofs.Math.Option.{Option, none, some}
+use Rattle.std.specs.Prelude.{ℕ, ◌+◌, List, length, Option, Some, None}
 use Rattle.amf0.specs.Value.{Value}
 use Rattle.amf0.specs.Places.{stretch}
 use Rattle.messages.specs.declared.stream_metadata.StreamMetadata.{StreamMetadata}
@@ -9,8 +8,8 @@ use Rattle.bodies.specs.Fields.{whole_value, rate_value, flag_value, text_value}
 
 -- n where there is a value
 abbrev pub size_if : Option Value → ℕ → ℕ
-size_if (some v) n = n
-size_if none n = 0
+size_if (Some v) n = n
+size_if None n = 0
 
 abbrev pub video_size : StreamMetadata → ℕ
 video_size m =

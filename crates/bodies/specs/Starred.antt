@@ -1,19 +1,16 @@
 -- Cases on bodies, as rows of one table: a body, and its bytes in hexadecimal. `proofs/Starred.antt` has the theorem: each row holds.
 -- Assumes nothing.
-use Rattle.std.specs.Prelude.{ℕ, true, false, List, [], ◌∷◌}
+use Rattle.std.specs.Prelude.{ℕ, true, false, List, [], ◌∷◌, Some, None}
 use Prim.Native.String.{String}
 use Rattle.std.specs.Float.{binary32}
 use Rattle.std.specs.Float.Ieee.{of_bits}
 use Rattle.octets.specs.Compare.{ascii}
-use Rattle.amf0.specs.declared.properties.TextAt.TheVariants as at
 use Rattle.messages.specs.declared.publish_request_type.PublishRequestType.TheVariants.{Append}
 use Rattle.messages.specs.declared.rtmp_message.UserControlEvent.TheVariants.{SetBufferLength, PingRequest, PingResponse}
-use Rattle.messages.specs.declared.stream_metadata.OptionU32.TheVariants as u32
-use Rattle.messages.specs.declared.stream_metadata.OptionF32.TheVariants as f32
-use Rattle.messages.specs.declared.stream_metadata.OptionBool.TheVariants as flag
 use Rattle.messages.specs.declared.stream_metadata.StreamMetadata.{StreamMetadata}
 use Rattle.bodies.specs.Bodies.{connect_body, create_stream_body, delete_stream_body, play_body, publish_body, control_body, word_body}
 use Rattle.bodies.specs.MetadataBody.{metadata_body}
+use Rattle.octets.specs.Span.{span}
 
 pub record Row : Type 0 where
   pub body : List ℕ
@@ -23,17 +20,17 @@ pub record Row : Type 0 where
 abbrev pub some_fields : StreamMetadata
 some_fields =
     record {
-      video_width = u32.Some 640;
-      video_height = u32.None;
-      video_codec_id = u32.None;
-      video_frame_rate = f32.Some (of_bits binary32 0x7fc0_0001);
-      video_bitrate_kbps = u32.None;
-      audio_codec_id = u32.None;
-      audio_bitrate_kbps = u32.None;
-      audio_sample_rate = u32.None;
-      audio_channels = u32.None;
-      audio_is_stereo = flag.Some true;
-      encoder = at.At 1 3;
+      video_width = Some 640;
+      video_height = None;
+      video_codec_id = None;
+      video_frame_rate = Some (of_bits binary32 0x7fc0_0001);
+      video_bitrate_kbps = None;
+      audio_codec_id = None;
+      audio_bitrate_kbps = None;
+      audio_sample_rate = None;
+      audio_channels = None;
+      audio_is_stereo = Some true;
+      encoder = Some (span 1 3);
     }
 
 -- The first three are starred in document 01, "Spindle cases". The others are not: they are worked out from the papers.

@@ -1,183 +1,184 @@
 // Command bodies, type 20.
-ghost use Rattle.std.specs.Prelude.{◌≡◌, cond, ◌++◌, ◌+◌, ◌<◌, ◌≤◌, ◌^◌, length};
+ghost use Rattle.std.specs.Prelude.{◌≡◌, ◌++◌, ◌+◌, ◌<◌, ◌≤◌, ◌^◌, cond, length};
 ghost use Rattle.octets.specs.Compare.{ascii};
-ghost use Rattle.octets.specs.Output.{Put, Written};
+ghost use Rattle.octets.specs.Output.{Room, Put, Written};
 ghost use Rattle.numbers.specs.Numbers.{number_of};
 ghost use Rattle.amf0.specs.Value.{number as number_value, text, null, prop, nil};
 ghost use Rattle.amf0.specs.Encode.{encode, encode_props, encode_values};
 ghost use Rattle.messages.specs.declared.rtmp_message.UserControlEvent.TheVariants.{SetBufferLength};
-ghost use Rattle.bodies.specs.Bodies.{command_values, tc_url_prop, connect_object, connect_body, create_stream_body, delete_stream_body, play_body, publish_name, publish_body, control_body};
+ghost use Rattle.bodies.specs.Bodies.{command_values, is_given, url_bytes, tc_url_prop, connect_object, connect_body, create_stream_body, delete_stream_body, play_body, publish_name, publish_body, control_body};
 
 use crate::controls::put_set_buffer_length;
 use crate::properties::{put_number_property, put_text_property};
 use messages::{PublishRequestType, StreamNumber, TransactionNumber};
-use octets::Wrote;
+use octets::{NoSpace, Writer};
 
 // A command's name and number.
-fn put_head(out: &mut [u8], at: usize, name: &[u8], n: u32) -> usize
+fn put_head(w: &mut Writer, name: &[u8], n: u32)
     requires name_short { length name.now < 2 ^ 16 }
-    requires room { at + length name.now + 12 ≤ length out.old }
-    ensures put { Put out.old at (encode (text name.now) ++ encode (number_value (number_of n))) out.new result }
-    ensures value { result ≡ at + length name.now + 12 }
+    requires room { Room w.old (length name.now + 12) }
+    ensures put { Put w.old (encode (text name.now) ++ encode (number_value (number_of n))) w.new }
+    ensures value { w.new.at ≡ w.old.at + length name.now + 12 }
 {
-    let a = amf0::put_text(out, at, name);
-    amf0::put_number(out, a, numbers::number_of(n))
+    amf0::put_text(w, name);
+    amf0::put_number(w, numbers::number_of(n));
 }
 
 // A command as far as its arguments, with null for its object.
-fn put_command(out: &mut [u8], at: usize, name: &[u8], n: u32) -> usize
+fn put_command(w: &mut Writer, name: &[u8], n: u32)
     requires name_short { length name.now < 2 ^ 16 }
-    requires room { at + length name.now + 13 ≤ length out.old }
-    ensures put { Put out.old at (encode_values (command_values name.now n null nil)) out.new result }
-    ensures value { result ≡ at + length name.now + 13 }
+    requires room { Room w.old (length name.now + 13) }
+    ensures put { Put w.old (encode_values (command_values name.now n null nil)) w.new }
+    ensures value { w.new.at ≡ w.old.at + length name.now + 13 }
 {
-    let a = put_head(out, at, name, n);
-    amf0::put_null(out, a)
+    put_head(w, name, n);
+    amf0::put_null(w);
 }
 
-// n where it is sent, and else 0.
-fn len_if(sent: bool, n: usize) -> usize
-    ensures value { result ≡ cond sent n 0 }
-    ensures upper_bound { result ≤ n }
+// How many bytes tcUrl takes.
+fn tc_url_len(url: Option<&[u8]>) -> usize
+    requires { length (url_bytes url) < 2 ^ 16 }
+    ensures value { result ≡ cond (is_given url.entry) (length (url_bytes url.entry) + 10) 0 }
+    ensures upper_bound { result < 2 ^ 17 }
 {
-    if sent { n } else { 0 }
+    match url {
+        Some(url) => url.len() + 10,
+        None => 0,
+    }
 }
 
 // tcUrl where it is configured, and the object's end.
-fn put_tc_url(out: &mut [u8], at: usize, has: bool, url: &[u8]) -> usize
-    requires url_short { length url.now < 2 ^ 16 }
-    requires room { at + cond has (length url.now + 10) 0 + 3 ≤ length out.old }
-    ensures { Put out.old at (encode_props (tc_url_prop has url.now)) out.new result }
+fn put_tc_url(w: &mut Writer, url: Option<&[u8]>)
+    requires url_short { length (url_bytes url) < 2 ^ 16 }
+    requires room { Room w.old (cond (is_given url) (length (url_bytes url) + 10) 0 + 3) }
+    ensures { Put w.old (encode_props (tc_url_prop (is_given url.entry) (url_bytes url.entry))) w.new }
 {
-    if has {
-        let a = put_text_property(out, at, b"tcUrl", url);
-        return amf0::put_object_end(out, a);
+    if let Some(url) = url {
+        put_text_property(w, b"tcUrl", url);
     }
-    amf0::put_object_end(out, at)
+    amf0::put_object_end(w);
 }
 
 // The object from `objectEncoding` on.
-fn put_from_encoding(out: &mut [u8], at: usize, has: bool, url: &[u8]) -> usize
-    requires url_short { length url.now < 2 ^ 16 }
-    requires room { at + 28 + cond has (length url.now + 10) 0 ≤ length out.old }
-    ensures { Put out.old at (encode_props (prop (ascii "objectEncoding") (number_value (number_of 0)) (tc_url_prop has url.now))) out.new result }
+fn put_from_encoding(w: &mut Writer, url: Option<&[u8]>)
+    requires url_short { length (url_bytes url) < 2 ^ 16 }
+    requires room { Room w.old (28 + cond (is_given url) (length (url_bytes url) + 10) 0) }
+    ensures { Put w.old (encode_props (prop (ascii "objectEncoding") (number_value (number_of 0)) (tc_url_prop (is_given url.entry) (url_bytes url.entry)))) w.new }
 {
-    let a = put_number_property(out, at, b"objectEncoding", numbers::number_of(0));
-    put_tc_url(out, a, has, url)
+    put_number_property(w, b"objectEncoding", numbers::number_of(0));
+    put_tc_url(w, url);
 }
 
 // The object of a connect.
-fn put_connect_object(
-    out: &mut [u8],
-    at: usize,
-    app: &[u8],
-    flash: &[u8],
-    has: bool,
-    url: &[u8],
-) -> usize
+fn put_connect_object(w: &mut Writer, app: &[u8], flash: &[u8], url: Option<&[u8]>)
     requires app_short { length app.now < 2 ^ 16 }
     requires flash_short { length flash.now < 2 ^ 16 }
-    requires url_short { length url.now < 2 ^ 16 }
-    requires room { at + 50 + length app.now + length flash.now + cond has (length url.now + 10) 0 ≤ length out.old }
-    ensures { Put out.old at (encode (connect_object app.now flash.now has url.now)) out.new result }
+    requires url_short { length (url_bytes url) < 2 ^ 16 }
+    requires room { Room w.old (50 + length app.now + length flash.now + cond (is_given url) (length (url_bytes url) + 10) 0) }
+    ensures { Put w.old (encode (connect_object app.now flash.now (is_given url.entry) (url_bytes url.entry))) w.new }
 {
-    let a = amf0::put_object_start(out, at);
-    let b = put_text_property(out, a, b"app", app);
-    let c = put_text_property(out, b, b"flashVer", flash);
-    put_from_encoding(out, c, has, url)
+    amf0::put_object_start(w);
+    put_text_property(w, b"app", app);
+    put_text_property(w, b"flashVer", flash);
+    put_from_encoding(w, url);
 }
 
+// tcUrl is sent where it is given.
 pub fn write_connect(
     out: &mut [u8],
     number: TransactionNumber,
     app: &[u8],
     flash: &[u8],
-    has_url: bool,
-    url: &[u8],
-) -> Wrote
+    url: Option<&[u8]>,
+) -> Result<usize, NoSpace>
     requires app_short { length app.now < 2 ^ 16 }
     requires flash_short { length flash.now < 2 ^ 16 }
-    requires url_short { length url.now < 2 ^ 16 }
-    ensures { Written out.old (connect_body number.0 app.now flash.now has_url url.now) out.new result }
+    requires url_short { length (url_bytes url) < 2 ^ 16 }
+    ensures { Written out.old (connect_body number.0 app.now flash.now (is_given url.entry) (url_bytes url.entry)) out.new result }
 {
-    if out.len() < 69 + app.len() + flash.len() + len_if(has_url, url.len() + 10) {
-        return Wrote::NoSpace;
+    if out.len() < 69 + app.len() + flash.len() + tc_url_len(url) {
+        return Err(NoSpace);
     }
-    let a = put_head(out, 0, b"connect", number.0);
-    Wrote::Done(put_connect_object(out, a, app, flash, has_url, url))
+    let mut w = Writer::new(out);
+    put_head(&mut w, b"connect", number.0);
+    put_connect_object(&mut w, app, flash, url);
+    Ok(w.position())
 }
 
-pub fn write_create_stream(out: &mut [u8], number: TransactionNumber) -> Wrote
+pub fn write_create_stream(out: &mut [u8], number: TransactionNumber) -> Result<usize, NoSpace>
     ensures { Written out.old (create_stream_body number.0) out.new result }
 {
     if out.len() < 25 {
-        return Wrote::NoSpace;
+        return Err(NoSpace);
     }
-    Wrote::Done(put_command(out, 0, b"createStream", number.0))
+    let mut w = Writer::new(out);
+    put_command(&mut w, b"createStream", number.0);
+    Ok(w.position())
 }
 
-pub fn write_delete_stream(out: &mut [u8], stream: StreamNumber) -> Wrote
+pub fn write_delete_stream(out: &mut [u8], stream: StreamNumber) -> Result<usize, NoSpace>
     ensures { Written out.old (delete_stream_body stream.0) out.new result }
 {
     if out.len() < 34 {
-        return Wrote::NoSpace;
+        return Err(NoSpace);
     }
-    let a = put_command(out, 0, b"deleteStream", 0);
-    Wrote::Done(amf0::put_number(out, a, numbers::number_of(stream.0)))
+    let mut w = Writer::new(out);
+    put_command(&mut w, b"deleteStream", 0);
+    amf0::put_number(&mut w, numbers::number_of(stream.0));
+    Ok(w.position())
 }
 
-fn put_play(out: &mut [u8], at: usize, key: &[u8]) -> usize
+fn put_play(w: &mut Writer, key: &[u8])
     requires key_short { length key.now < 2 ^ 16 }
-    requires room { at + length key.now + 20 ≤ length out.old }
-    ensures { Put out.old at (play_body key.now) out.new result }
+    requires room { Room w.old (length key.now + 20) }
+    ensures { Put w.old (play_body key.now) w.new }
 {
-    let a = put_command(out, at, b"play", 0);
-    amf0::put_text(out, a, key)
+    put_command(w, b"play", 0);
+    amf0::put_text(w, key);
 }
 
 // SetBufferLength of 10 bytes, and then play.
-pub fn write_play(out: &mut [u8], stream: StreamNumber, ms: u32, key: &[u8]) -> Wrote
+pub fn write_play(
+    out: &mut [u8],
+    stream: StreamNumber,
+    ms: u32,
+    key: &[u8],
+) -> Result<usize, NoSpace>
     requires { length key.now < 2 ^ 16 }
     ensures { Written out.old (control_body (SetBufferLength stream ms) ++ play_body key.now) out.new result }
 {
     if out.len() < 30 + key.len() {
-        return Wrote::NoSpace;
+        return Err(NoSpace);
     }
-    let a = put_set_buffer_length(out, 0, stream, ms);
-    Wrote::Done(put_play(out, a, key))
+    let mut w = Writer::new(out);
+    put_set_buffer_length(&mut w, stream, ms);
+    put_play(&mut w, key);
+    Ok(w.position())
 }
 
-// How long the name is under which that kind is sent.
-fn publish_name_len(kind: PublishRequestType) -> usize
-    ensures { (result ≡ length (publish_name kind)) × (result ≤ 6) }
+// The name under which that kind is sent.
+fn name_of(kind: PublishRequestType) -> &'static [u8]
+    ensures name { result.now ≡ publish_name kind }
+    ensures short { length result.now ≤ 6 }
 {
     match kind {
-        PublishRequestType::Live => 4,
-        PublishRequestType::Record => 6,
-        PublishRequestType::Append => 6,
+        PublishRequestType::Live => b"live",
+        PublishRequestType::Record => b"record",
+        PublishRequestType::Append => b"append",
     }
 }
 
-// `live`, `record` or `append`.
-fn put_publish_name(out: &mut [u8], at: usize, kind: PublishRequestType) -> usize
-    requires { at + length (publish_name kind) + 3 ≤ length out.old }
-    ensures { Put out.old at (encode (text (publish_name kind))) out.new result }
-{
-    match kind {
-        PublishRequestType::Live => amf0::put_text(out, at, b"live"),
-        PublishRequestType::Record => amf0::put_text(out, at, b"record"),
-        PublishRequestType::Append => amf0::put_text(out, at, b"append"),
-    }
-}
-
-pub fn write_publish(out: &mut [u8], key: &[u8], kind: PublishRequestType) -> Wrote
+pub fn write_publish(out: &mut [u8], key: &[u8], kind: PublishRequestType) -> Result<usize, NoSpace>
     requires { length key.now < 2 ^ 16 }
     ensures { Written out.old (publish_body key.now kind) out.new result }
 {
-    if out.len() < 26 + key.len() + publish_name_len(kind) {
-        return Wrote::NoSpace;
+    let name = name_of(kind);
+    if out.len() < 26 + key.len() + name.len() {
+        return Err(NoSpace);
     }
-    let a = put_command(out, 0, b"publish", 0);
-    let b = amf0::put_text(out, a, key);
-    Wrote::Done(put_publish_name(out, b, kind))
+    let mut w = Writer::new(out);
+    put_command(&mut w, b"publish", 0);
+    amf0::put_text(&mut w, key);
+    amf0::put_text(&mut w, name);
+    Ok(w.position())
 }

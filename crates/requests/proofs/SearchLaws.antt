@@ -1,101 +1,79 @@
--- What one turn of each loop does: the search for a place from a place on, the closing place by place, and the copying of a text byte by byte.
+-- The searches through the places, from what `find_map` and `position` answer.
 -- Assumes nothing.
-use Prim.Native.Nat.{ℕ, zero, suc, ◌+◌, ◌<◌, ◌≤◌}
-use mathlib.Core.Path.{◌≡◌, refl, ap, sym, ◌∙◌}
-use mathlib.Core.Bool.{Bool, true, false≢true}
-use mathlib.Core.List.{List, [], ◌∷◌, ◌++◌, map, append-nil}
-use mathlib.Core.Option.{Option}
-use native.Mathlib.Numerals.{add-one}
+use Prim.Native.Nat.{ℕ, zero, suc, ◌+◌, ◌-◌, ◌<◌, ◌≤◌}
+use mathlib.Core.Path.{◌≡◌, refl, sym, ap, ◌∙◌}
+use mathlib.Core.Bool.{Bool, cond, ◌&&◌}
+use mathlib.Core.List.{List, [], ◌∷◌, ◌++◌}
 use native.Mathlib.Omega.{arith}
-use native.Mathlib.Nat.{le_of_lt}
-use lib.ListN.{length, get_or, drop, take, set, replicate, drop_of_length-le, length-map, length-replicate}
-use borrow.Author.Tests.{ne_eqb}
-use lib.Dec.{eqb}
-use lib.Seq.{drop-cons, take-suc, append_snoc, set_at, length-take-le, take-suc-set, drop-set-lt, take-append-le}
-use Rattle.requests.specs.Places.{open_as, Request, held_by, has_number}
-use Rattle.requests.specs.Search.{request_in, number_of, numbers_of, among}
+use borrow.Author.Tests.{ltb-true, ltb-false}
+use lib.Dec.{eqb, ltb}
+use lib.ListN.{length, get_or, set, take, drop, length-drop}
+use lib.Seq.{drop-cons, take_all}
+use native.Mathlib.Numerals.{add-one}
+use Rattle.std.specs.Prelude.{Option, Some, None, MatchOption}
+use Rattle.std.proofs.lemmas.List.{get_or_default}
+use Rattle.std.proofs.lemmas.List.Edits.{map_over_more}
+use Rattle.requests.specs.Places.{Slot, empty_place, open_as, held_by, lookup, without, place_sound, places_sound}
 use Rattle.requests.specs.declared.text.Text.{Text}
-use Rattle.requests.specs.declared.place.Slot.{Slot}
-use Rattle.requests.specs.declared.place.Slot.TheVariants.{Free, Open}
 use Rattle.requests.specs.declared.place.Place.{Place}
+use Rattle.requests.specs.declared.place.Request.{Request}
+use Rattle.requests.proofs.BoolLaws.{by_cases}
 
 -- what the logic reads past the end of the places
 abbrev pub no-place : Place
-no-place = record { slot = Free; text = record { len = 0; bytes = [] } }
+no-place = record { request = None; text = record { len = 0; bytes = [] } }
 
--- the length of a list whose elements are structs, which the logic has of the list mapped to values
-pub unmapped : (X Y : Type 0) (f : X → Y) (l : List X) (n : ℕ) → length (map f l) ≡ n → length l ≡ n
-unmapped X Y f l n e = sym (length-map l f) ∙ e
+-- the request, if the place is open under the number
+abbrev pub held : ℕ → Place → Option Request
+held n p = held_by n p.request p.text None
+
+-- a place where the search goes on, and one where it stops
+goes-on : (n : ℕ) (σ : Slot) (t : Text) (o : Option Request) → held_by n σ t None ≡ None → held_by n σ t o ≡ o
+goes-on n None t o e = refl
+goes-on n (Some (m, k)) t o e = by_cases (eqb m.0 n) (λ u. let h = rw u at e in cc) (λ u. rw u)
+
+stops : (n : ℕ) (σ : Slot) (t : Text) (o : Option Request) (q : Request) → held_by n σ t None ≡ Some q → held_by n σ t o ≡ Some q
+stops n None t o q e = cc
+stops n (Some (m, k)) t o q e = by_cases (eqb m.0 n) (λ u. rw u (rw u at e)) (λ u. let h = rw u at e in cc)
+
+-- what the search answers is what is open under the number
+pub found-first : (n : ℕ) (ps : List Place) (r : Option Request)
+    → MatchOption r ((k : ℕ) → k < length ps → held n (get_or ps k no-place) ≡ None)
+    (λ q. (i : ℕ) × (i < length ps) × (held n (get_or ps i no-place) ≡ Some q) × ((k : ℕ) → k < i → held n (get_or ps k no-place) ≡ None))
+    → r ≡ lookup n ps
+unfolding lookup
+found-first n [] None m = refl
+found-first n (p ∷ ps) None m =
+    found-first n ps None (λ k h. m (suc k) (omega arith)) ∙ sym (goes-on n p.request p.text (lookup n ps) (m 0 (omega arith)))
+found-first n [] (Some q) (i, h, e, f) = absurd (omega arith)
+found-first n (p ∷ ps) (Some q) (zero, h, e, f) = sym (stops n p.request p.text (lookup n ps) q e)
+found-first n (p ∷ ps) (Some q) (suc i, h, e, f) =
+    found-first n ps (Some q) (i, omega arith, e, λ k l. f (suc k) (omega arith)) ∙ sym (goes-on n p.request p.text (lookup n ps) (f 0 (omega arith)))
+
+-- the first place, or none where it would stand past the end
+pub first-of : (n m : ℕ) (r : Option ℕ) → r ≡ cond (ltb n m) (Some n) None → MatchOption r (m ≤ n) (λ at. (at ≡ n) × (at < m))
+first-of n m r e =
+    by_cases (ltb n m)
+    (λ u. let l = ltb-true n m u in rw (e, u) (refl, l))
+    (λ u. let l = ltb-false n m u in rw (e, u) l)
+
+-- a turn of the loop over the places: those from i on are sound exactly if the one there is, and those after it are
+pub sound-turn : (next : ℕ) (ps : List Place) (i : ℕ) {b : Bool} → i < length ps
+    → b ≡ place_sound next (get_or ps i no-place).request (get_or ps i no-place).text (take (length ps - (i + 1)) (drop (i + 1) ps))
+    → places_sound next (drop i ps) ≡ (b && places_sound next (drop (i + 1) ps))
+unfolding places_sound
+sound-turn next ps i h e =
+    rw (e, take_all (length ps - (i + 1)) (drop (i + 1) ps) (simp length-drop (omega arith)), add-one, drop-cons ps i no-place h)
+
+-- a turn of the loop that closes: the place at i is emptied if it is open under the number
+pub close-turn : (n : ℕ) (xs ys : List Place) (i : ℕ) {zs : List Place} {b : Bool} → i < length xs → length ys ≡ length xs
+    → ys ≡ without n (take i xs) ++ drop i xs → b ≡ open_as n (get_or ys i no-place).request
+    → zs ≡ set ys i (cond b empty_place (get_or ys i no-place)) → zs ≡ without n (take (i + 1) xs) ++ drop (i + 1) xs
+unfolding without
+close-turn n xs ys i h l e o z =
+    let x = get_or ys i no-place in
+    z ∙ ap (λ c. set ys i (cond c empty_place x)) o
+    ∙ map_over_more (λ p. cond (open_as n p.request) empty_place p) xs ys i x h e (get_or_default ys i no-place x (omega arith))
 
 pub drop-step : {A : Type 0} (l : List A) (i : ℕ) (d : A) → i < length l → drop i l ≡ get_or l i d ∷ drop (i + 1) l
 drop-step l i d h = rw (add-one, drop-cons l i d)
-
--- the place that is open under the number is what the search finds
-pub open-held : (n : ℕ) (σ : Slot) (t : Text) (o : Option Request) → open_as n σ ≡ true → request_in σ t ≡ held_by n σ t o
-open-held n Free t o e = absurd (false≢true e)
-open-held n (Open m k) t o e = rw e
-
--- a list whose first i elements are mapped already
-module _ {A : Type 0} (f : A → A) where
-  pub map-turn : (l : List A) (i : ℕ) (d : A) → i < length l
-      → take (i + 1) (set l i (f (get_or l i d))) ++ map f (drop (i + 1) (set l i (f (get_or l i d)))) ≡ take i l ++ map f (drop i l)
-  map-turn l i d h =
-      rw (add-one i, take-suc-set l i (f (get_or l i d)) h, drop-set-lt (suc i) l i (f (get_or l i d)) (omega arith), drop-cons l i d h, append_snoc)
-
--- ---- a text copied over zeros, of which there are n
-over_turn : (old t : List ℕ) (i : ℕ) → i < length t → i < length old
-    → set (take i t ++ drop i old) i (get_or t i 0) ≡ take (i + 1) t ++ drop (i + 1) old
-over_turn old t i h k =
-    rw (add-one i, drop-cons old i 0 k, take-suc t i 0 h, append_snoc (take i t) (get_or t i 0) (drop (suc i) old))
-    (set_at (take i t) (get_or old i 0) (drop (suc i) old) (get_or t i 0) i (length-take-le i t (le_of_lt h)))
-
-take-zeros : (n m : ℕ) → n ≤ m → take n (replicate m 0) ≡ replicate {A = ℕ} n 0
-take-zeros zero m h = refl
-take-zeros (suc n) zero h = absurd (omega arith)
-take-zeros (suc n) (suc m) h = ap (λ l. 0 ∷ l) (take-zeros n m (omega arith))
-
--- the first i bytes are there, and the next is copied
-pub pad_turn : (n : ℕ) (t : List ℕ) (i : ℕ) → i < length t → i < n
-    → set (take i t ++ drop i (replicate n 0)) i (get_or t i 0) ≡ take (i + 1) t ++ drop (i + 1) (replicate n 0)
-pad_turn n t i h k = over_turn (replicate n 0) t i h (rw (length-replicate {A = ℕ} n 0) k)
-
--- all of it is there
-pub pad_short : (n m : ℕ) (t : List ℕ) → n ≤ m → length t ≤ n → t ++ drop (length t) (replicate n 0) ≡ take n (t ++ replicate m 0)
-pad_short n m [] h l = sym (take-zeros n m h)
-pad_short zero m (x ∷ t) h l = absurd (omega arith)
-pad_short (suc n) m (x ∷ t) h l = ap (λ r. x ∷ r) (pad_short n m t (omega arith) (omega arith))
-
--- n bytes of it are there
-pub pad_long : (n m : ℕ) (t : List ℕ) → n ≤ length t → take n t ++ drop n (replicate n 0) ≡ take n (t ++ replicate m 0)
-pad_long n m t h =
-    let e : n ≡ length (replicate {A = ℕ} n 0) = sym (length-replicate n 0) in
-    let l : length (replicate {A = ℕ} n 0) ≤ n = omega arith in
-    rw (take-append-le n t (replicate m 0) h, drop_of_length-le (replicate {A = ℕ} n 0) {i = n} l, append-nil)
-
--- ---- the numbers of the places
-pub length-numbers : (ps : List Place) → length (numbers_of ps) ≡ length ps
-unfolding numbers_of
-length-numbers ps = length-map ps _
-
-pub number_at : (ps : List Place) (i : ℕ) → i < length ps → get_or (numbers_of ps) i 0 ≡ number_of (get_or ps i no-place).slot
-unfolding numbers_of
-number_at [] i h = absurd (omega arith)
-number_at (p ∷ ps) zero h = refl
-number_at (p ∷ ps) (suc i) h = number_at ps i (omega arith)
-
-open-number : (n : ℕ) → 0 < n → (σ : Slot) → eqb (number_of σ) n ≡ open_as n σ
-open-number n h Free = ne_eqb 0 n (λ e. omega arith)
-open-number n h (Open m k) = refl
-
--- a number that is not 0 is among them exactly if a place is open under it
-among-numbers : (n : ℕ) → 0 < n → (from : ℕ) (ps : List Place) → among n (drop from (numbers_of ps)) ≡ has_number n (drop from ps)
-unfolding numbers_of among has_number
-among-numbers n h zero [] = refl
-among-numbers n h (suc from) [] = refl
-among-numbers n h zero (p ∷ ps) = rw (open-number n h p.slot, among-numbers n h zero ps)
-among-numbers n h (suc from) (p ∷ ps) = among-numbers n h from ps
-
--- the same from what the search through them answered
-pub in-numbers : (n : ℕ) → 0 < n → (from : ℕ) (ps : List Place) {ms : List ℕ} {t b : Bool}
-    → ms ≡ numbers_of ps → t ≡ among n (drop from ms) → t ≡ b → has_number n (drop from ps) ≡ b
-in-numbers n h from ps e f g = sym (among-numbers n h from ps) ∙ ap (λ l. among n (drop from l)) (sym e) ∙ sym f ∙ g

@@ -4,7 +4,7 @@ use Prim.Native.Nat.{ℕ, ◌<◌, ◌≤◌}
 use mathlib.Core.Path.{◌≡◌, refl}
 use mathlib.Core.Bool.{true, false, cond, ◌&&◌}
 use mathlib.Core.List.{List}
-use mathlib.Core.Option.{none as nothing, some}
+use Rattle.std.specs.Prelude.{Some, None}
 use native.Mathlib.Omega.{arith}
 use borrow.Author.Tests.{ltb-true, lt-ltb, leb-true, leb-false, le-leb}
 use lib.Dec.{eqb, ltb, leb}
@@ -76,7 +76,7 @@ module _ (r : Requests) (e : requests_sound r ≡ true) where
         (record { low = omega arith; high = omega arith; places = put-sound r.next k (stored t) s.low (stored-sound t f) r.places room s.places })
 
     -- the open requests are those before, with the new one
-    pub asked-open : (m : ℕ) → lookup m (asked r k t).places ≡ cond (eqb r.next m) (some (record { kind = k; text = stored t })) (lookup m r.places)
+    pub asked-open : (m : ℕ) → lookup m (asked r k t).places ≡ cond (eqb r.next m) (Some (record { kind = k; text = stored t })) (lookup m r.places)
     unfolding asked
     asked-open m = lookup-put r.next k (stored t) r.places room next_new m
 
@@ -87,6 +87,6 @@ module _ (r : Requests) (n : ℕ) where
   closed-sound e = let s = sound r e in of-sound _ (record { low = s.low; high = s.high; places = without-sound r.next n r.places s.places })
 
   -- the open requests are those before, without the one under that number
-  pub closed-open : (m : ℕ) → lookup m (closed r n).places ≡ cond (eqb n m) nothing (lookup m r.places)
+  pub closed-open : (m : ℕ) → lookup m (closed r n).places ≡ cond (eqb n m) None (lookup m r.places)
   unfolding closed
   closed-open m = lookup-without m n r.places

@@ -1,5 +1,4 @@
 -- The definitions that the contracts cite.
 pub mod Texts
 pub mod Places
-pub mod Search
 pub mod Table

@@ -1,16 +1,13 @@
 -- The open requests and the number that is due next.
 -- Assumes nothing.
-use Rattle.std.specs.Prelude.{ℕ, ◌+◌, Bool, cond, ◌&&◌, List, [], ltb, leb, replicate}
-use Rattle.std.proofs.Math.Option.{Option, none as nothing, some}
+use Rattle.std.specs.Prelude.{ℕ, ◌+◌, Bool, cond, ◌&&◌, List, ltb, leb, replicate, Option, Some, None, Result, Ok, Err}
 use Rattle.requests.specs.Texts.{stored}
-use Rattle.requests.specs.Places.{empty_place, open_count, Request, lookup, without, put, places_sound}
+use Rattle.requests.specs.Places.{empty_place, open_count, lookup, without, put, places_sound}
 use Rattle.requests.specs.declared.outstanding_transaction.OutstandingTransaction.{OutstandingTransaction}
-use Rattle.requests.specs.declared.place.Slot.TheVariants.{Open}
+use Rattle.requests.specs.declared.place.Request.{Request}
 use Rattle.requests.specs.declared.table.Requests.{Requests}
-use Rattle.requests.specs.declared.table.TakeAnswer.TheVariants.{Given, Spent, EightOpen}
-use Rattle.requests.specs.declared.table.Taken.{Taken}
-use Rattle.requests.specs.declared.table.CloseAnswer.TheVariants as close
-use Rattle.requests.specs.declared.table.Closed.{Closed}
+use Rattle.requests.specs.declared.table.TakeError.{TakeError}
+use Rattle.requests.specs.declared.table.TakeError.TheVariants.{Spent, EightOpen}
 use Rattle.messages.specs.declared.ids.TransactionNumber.{TransactionNumber}
 
 -- numbers start at 1
@@ -30,21 +27,31 @@ eight_open r = leb 8 (open_count r.places)
 
 -- with a request under the next number; numbers rise by 1
 unfoldable pub asked : Requests → OutstandingTransaction → List ℕ → Requests
-asked r k t = record { next = r.next + 1; places = put (record { slot = Open (record { 0 = r.next }) k; text = stored t }) r.places }
+asked r k t = record { next = r.next + 1; places = put (record { request = Some (record { 0 = r.next }, k); text = stored t }) r.places }
+
+-- what taking answers, and the table after it
+pub record Taken : Type 0 where
+  pub answer : Result TransactionNumber TakeError
+  pub requests : Requests
 
 unfoldable pub take_of : Requests → OutstandingTransaction → List ℕ → Taken
 take_of r k t =
-    cond (spent r) (record { answer = Spent; requests = r })
-    (cond (eight_open r) (record { answer = EightOpen; requests = r })
-    (record { answer = Given (record { 0 = r.next }); requests = asked r k t }))
+    cond (spent r) (record { answer = Err Spent; requests = r })
+    (cond (eight_open r) (record { answer = Err EightOpen; requests = r })
+    (record { answer = Ok (record { 0 = r.next }); requests = asked r k t }))
 
 -- with the request under that number closed
 unfoldable pub closed : Requests → ℕ → Requests
 closed r n = record { next = r.next; places = without n r.places }
 
+-- the request that closing gives back, and the table after it
+pub record Closed : Type 0 where
+  pub request : Option Request
+  pub requests : Requests
+
 abbrev pub closed_by : Requests → ℕ → Option Request → Closed
-closed_by r n nothing = record { answer = close.Unknown; text = stored []; requests = r }
-closed_by r n (some q) = record { answer = close.Request q.kind; text = q.text; requests = closed r n }
+closed_by r n None = record { request = None; requests = r }
+closed_by r n (Some q) = record { request = Some q; requests = closed r n }
 
 unfoldable pub close_of : Requests → TransactionNumber → Closed
 close_of r n = closed_by r n.0 (lookup n.0 r.places)

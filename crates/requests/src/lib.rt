@@ -7,6 +7,6 @@ mod table;
 mod text;
 
 pub use outstanding_transaction::{OutstandingTransaction, TransactionPurpose};
-pub use place::{Place, Slot, all_free};
-pub use table::{CloseAnswer, Closed, Requests, TakeAnswer, Taken};
+pub use place::{Place, Request, all_free};
+pub use table::{Requests, TakeError};
 pub use text::{Text, fits};

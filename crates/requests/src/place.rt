@@ -1,184 +1,109 @@
 // One of the eight places, and the searches through all of them.
-ghost use Rattle.std.specs.Prelude.{◌≡◌, cond, List, drop};
-ghost use Rattle.requests.specs.Places.{empty_place, is_free, open_as, lookup, without as without_of, free_place, place_sound, places_sound, all_free};
-ghost use Rattle.requests.specs.Search.{request_in, number_of, numbers_of, among};
+ghost use Rattle.std.specs.Prelude.{◌≡◌, ◌≤◌, ◌<◌, length, MatchOption};
+ghost use Rattle.std.specs.Option.{is_none};
+ghost use Rattle.requests.specs.Places.{empty_place, open_as, held_by, lookup, without as without_of, free_place, has_number, place_sound, places_sound, all_free};
 
 use crate::outstanding_transaction::OutstandingTransaction;
 use crate::text::Text;
 use messages::TransactionNumber;
 
-#[derive(Clone, Copy)]
-pub enum Slot {
-    Free,
-    Open(TransactionNumber, OutstandingTransaction),
-}
-
 // What stands in the text of a free place never matters.
-#[derive(Clone, Copy)]
+#[derive(Debug, PartialEq, Eq, Clone, Copy)]
 pub struct Place {
-    pub slot: Slot,
+    pub request: Option<(TransactionNumber, OutstandingTransaction)>,
     pub text: Text,
 }
 
-// A place with no request.
-pub fn empty_place() -> Place
-    ensures { result ≡ empty_place }
-{
-    Place {
-        slot: Slot::Free,
-        text: Text::new(b""),
-    }
+// An open request but for its number: what it was sent for, and its text.
+#[derive(Debug, PartialEq, Eq, Clone, Copy)]
+pub struct Request {
+    pub kind: OutstandingTransaction,
+    pub text: Text,
 }
 
-fn is_free(place: Place) -> bool
-    ensures { result ≡ is_free place.slot }
-{
-    let slot = place.slot;
-    match slot {
-        Slot::Free => true,
-        Slot::Open(_, _) => false,
-    }
-}
-
-// Whether the place is open under the number.
-fn open_as(place: Place, number: u32) -> bool
-    ensures { result ≡ open_as number place.slot }
-{
-    let slot = place.slot;
-    match slot {
-        Slot::Free => false,
-        Slot::Open(n, _) => n.0 == number,
-    }
-}
-
-// The first place that is free, or 8 where none is.
-pub fn first_free(places: [Place; 8]) -> usize
-    ensures { result ≡ free_place places }
-{
-    let mut i: usize = 0;
-    while i < 8 {
-        let place = places[i];
-        if is_free(place) {
-            return i;
+impl Place {
+    // A place with no request.
+    pub(crate) fn empty() -> Place
+        ensures { result ≡ empty_place }
+    {
+        Place {
+            request: None,
+            text: Text::new(b""),
         }
-        i += 1;
     }
-    i
-}
 
-// The place that is open under the number, the first if there are several; an empty one where there is none.
-pub fn find(places: [Place; 8], number: u32) -> Place
-    ensures { request_in result.slot result.text ≡ lookup number places }
-{
-    let mut i: usize = 0;
-    while i < 8 {
-        let place = places[i];
-        if open_as(place, number) {
-            return place;
+    // Whether the place is open under the number.
+    fn is_open_as(&self, number: TransactionNumber) -> bool
+        ensures { result ≡ open_as number.0 self.now.request }
+    {
+        matches!(self.request, Some((open, _)) if open == number)
+    }
+
+    // The request, if the place is open under the number.
+    fn request_under(&self, number: TransactionNumber) -> Option<Request>
+        ensures { result ≡ held_by number.0 self.now.request self.now.text None }
+    {
+        match self.request {
+            Some((open, kind)) if open == number => Some(Request {
+                kind,
+                text: self.text,
+            }),
+            _ => None,
         }
-        i += 1;
     }
-    empty_place()
-}
 
-// The place, emptied if it is open under the number.
-fn emptied(place: Place, number: u32) -> Place
-    ensures { result ≡ cond (open_as number place.slot) empty_place place }
-{
-    if open_as(place, number) {
-        return empty_place();
-    }
-    place
-}
-
-// The places with the request under the number closed.
-pub fn without(places: [Place; 8], number: u32) -> [Place; 8]
-    ensures { result ≡ without_of number places }
-{
-    let mut rest = places;
-    let mut i: usize = 0;
-    while i < 8 {
-        let place = rest[i];
-        rest[i] = emptied(place, number);
-        i += 1;
-    }
-    rest
-}
-
-// The number under which the place is open, and 0 for a free one.
-fn number_of(slot: Slot) -> u32
-    ensures { result ≡ number_of slot }
-{
-    match slot {
-        Slot::Free => 0,
-        Slot::Open(n, _) => n.0,
-    }
-}
-
-// The numbers of all places, so that those with their texts need not be passed on.
-fn numbers(places: [Place; 8]) -> [u32; 8]
-    ensures { result ≡ numbers_of places }
-{
-    let mut out = [0; 8];
-    let mut i: usize = 0;
-    while i < 8 {
-        let place = places[i];
-        let slot = place.slot;
-        out[i] = number_of(slot);
-        i += 1;
-    }
-    out
-}
-
-// Whether a number at `from` or after is that one.
-fn has_number(numbers: [u32; 8], from: usize, number: u32) -> bool
-    ensures { result ≡ among number (drop from numbers) }
-{
-    let mut i = from;
-    while i < 8 {
-        if numbers[i] == number {
+    // Whether a place is such as a session has, beside those after it.
+    fn sound(&self, others: &[Place], next: u64) -> bool
+        ensures { result ≡ place_sound next self.now.request self.now.text others.now }
+    {
+        let Some((number, _)) = self.request else {
             return true;
-        }
-        i += 1;
-    }
-    false
-}
-
-// Whether a place is such as a session has, the numbers of the others being those from `from` on.
-fn place_sound(place: Place, numbers: [u32; 8], from: usize, next: u64) -> bool
-    ensures { (ps : List Place) → numbers ≡ numbers_of ps → result ≡ place_sound next place.slot place.text (drop from ps) }
-{
-    let slot = place.slot;
-    match slot {
-        Slot::Free => true,
-        Slot::Open(number, _) => {
-            let n = number.0;
-            if n == 0 {
-                return false;
-            }
-            if next <= n as u64 {
-                return false;
-            }
-            if has_number(numbers, from, n) {
-                return false;
-            }
-            let text = place.text;
-            text.sound()
-        }
+        };
+        0 < number.0
+            && u64::from(number.0) < next
+            && !has_number(others, number)
+            && self.text.sound()
     }
 }
 
-// Whether the places are such as a session has, each looked at beside the numbers after it.
-fn each_sound(places: [Place; 8], next: u64) -> bool
-    ensures { result ≡ places_sound next places }
+// The first place that is free.
+pub fn first_free(places: &[Place]) -> Option<usize>
+    ensures { MatchOption result (length places.now ≤ free_place places.now) (λ at. (at ≡ free_place places.now) × (at < length places.now)) }
 {
-    let all = numbers(places);
-    let mut i: usize = 0;
-    while i < 8 {
-        let place = places[i];
-        if place_sound(place, all, i + 1, next) {
-            i += 1;
-        } else {
+    places.iter().position(|place| place.request.is_none())
+}
+
+// The request that is open under the number, the first if there are several.
+pub fn find(places: &[Place], number: TransactionNumber) -> Option<Request>
+    ensures { result ≡ lookup number.0 places.now }
+{
+    places.iter().find_map(|place| place.request_under(number))
+}
+
+// Whether some place is open under the number.
+fn has_number(places: &[Place], number: TransactionNumber) -> bool
+    ensures { result ≡ has_number number.0 places.now }
+{
+    places.iter().any(|place| place.is_open_as(number))
+}
+
+// Empties the places that are open under the number.
+pub fn close(places: &mut [Place], number: TransactionNumber)
+    ensures { places.new ≡ without_of number.0 places.old }
+{
+    for place in places.iter_mut() {
+        if place.is_open_as(number) {
+            *place = Place::empty();
+        }
+    }
+}
+
+// Whether the places are such as a session has, each looked at beside those after it.
+fn each_sound(places: &[Place], next: u64) -> bool
+    ensures { result ≡ places_sound next places.now }
+{
+    for (i, place) in places.iter().enumerate() {
+        if !place.sound(&places[i + 1..], next) {
             return false;
         }
     }
@@ -186,27 +111,15 @@ fn each_sound(places: [Place; 8], next: u64) -> bool
 }
 
 // Whether no request is open.
-pub fn all_free(places: [Place; 8]) -> bool
-    ensures { result ≡ all_free places }
+pub fn all_free(places: &[Place]) -> bool
+    ensures { result ≡ all_free places.now }
 {
-    let mut i: usize = 0;
-    while i < 8 {
-        let place = places[i];
-        if is_free(place) {
-            i += 1;
-        } else {
-            return false;
-        }
-    }
-    true
+    places.iter().all(|place| place.request.is_none())
 }
 
-// The same. Most sessions have no request open, and then no text is copied.
-pub fn places_sound(places: [Place; 8], next: u64) -> bool
-    ensures { result ≡ places_sound next places }
+// The same as each_sound. Most sessions have no request open, and then no text is looked at.
+pub fn places_sound(places: &[Place], next: u64) -> bool
+    ensures { result ≡ places_sound next places.now }
 {
-    if all_free(places) {
-        return true;
-    }
-    each_sound(places, next)
+    all_free(places) || each_sound(places, next)
 }

@@ -1,9 +1,9 @@
 // Texts of at most 255 bytes.
-ghost use Rattle.std.specs.Prelude.{◌≡◌};
-ghost use Rattle.requests.specs.Texts.{stored, fits as fits_of, text_sound};
+ghost use Rattle.std.specs.Prelude.{◌≡◌, ◌≤◌};
+ghost use Rattle.requests.specs.Texts.{stored, fits as fits_of, text_of, text_sound};
 
-// The text is the first `len` of the bytes.
-#[derive(Clone, Copy)]
+// The text is the first `len` of the bytes. They lie in an array, since no heap is used.
+#[derive(Debug, PartialEq, Eq, Clone, Copy)]
 pub struct Text {
     pub len: usize,
     pub bytes: [u8; 255],
@@ -13,10 +13,7 @@ pub struct Text {
 pub fn fits(s: &[u8]) -> bool
     ensures { result ≡ fits_of s.now }
 {
-    if 255 < s.len() {
-        return false;
-    }
-    octets::is_utf8(s)
+    s.len() <= 255 && octets::is_utf8(s)
 }
 
 // The first 255 bytes of s, with zeros after them where it is shorter.
@@ -24,14 +21,8 @@ fn padded(s: &[u8]) -> [u8; 255]
     ensures { result ≡ (stored s.now).bytes }
 {
     let mut out = [0; 255];
-    let mut i: usize = 0;
-    while i < 255 {
-        if s.len() <= i {
-            return out;
-        }
-        out[i] = s[i];
-        i += 1;
-    }
+    let n = s.len().min(255);
+    out[..n].copy_from_slice(&s[..n]);
     out
 }
 
@@ -40,22 +31,23 @@ impl Text {
     pub fn new(s: &[u8]) -> Text
         ensures { result ≡ stored s.now }
     {
-        let bytes = padded(s);
         Text {
             len: s.len(),
-            bytes: bytes,
+            bytes: padded(s),
         }
     }
 
-    // Whether it is a text that opening accepts.
-    pub fn sound(self) -> bool
-        ensures { result ≡ text_sound self }
+    // The text; of a record whose length is over 255, all its bytes.
+    pub fn as_slice(&self) -> &[u8]
+        ensures { result.now ≡ text_of self.now }
     {
-        let len = self.len;
-        if 255 < len {
-            return false;
-        }
-        let bytes = self.bytes;
-        octets::is_utf8(&bytes[..len])
+        octets::part(&self.bytes, 0, self.len)
+    }
+
+    // Whether it is a text that opening accepts.
+    pub fn sound(&self) -> bool
+        ensures { result ≡ text_sound self.now }
+    {
+        self.len <= 255 && octets::is_utf8(self.as_slice())
     }
 }

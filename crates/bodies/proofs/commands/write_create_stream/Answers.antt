@@ -11,4 +11,4 @@ pub returns-then-out-lt25 : goal.returns-then-out-lt25
 returns-then-out-lt25 c = short (simp length-create_stream (omega arith))
 
 pub returns : goal.returns
-returns c = fitted (unfold create_stream_body in search rules) (simp length-create_stream (omega arith))
+returns c = fitted c.put_command.new.w c.new-w.ensures c.position.ensures (unfold create_stream_body in search rules) (search rules) (simp length-create_stream (omega arith))

@@ -1,5 +1,6 @@
 -- `bodies::write_sizes` meets its contract: 4 bytes and 4 more, or no space.
 -- Assumes nothing.
+use borrow.Author.Rules.{rules}
 use native.Mathlib.Omega.{arith}
 use lib.ListN.{length-append}
 use Rattle.octets.proofs.BigEndianLaws.{length_digits}
@@ -10,4 +11,4 @@ pub returns-then-out-lt8 : goal.returns-then-out-lt8
 returns-then-out-lt8 c = short (simp (length-append, length_digits) (omega arith))
 
 pub returns : goal.returns
-returns c = fitted (search then) (simp (length-append, length_digits) (omega arith))
+returns c = fitted c.put_be32-2.new.self c.new-w.ensures c.position.ensures (search then) (search rules) (simp (length-append, length_digits) (omega arith))

@@ -7,7 +7,7 @@ use Rattle.amf0.specs.Places.{stretch}
 use Rattle.bodies.proofs.FieldLaws.{stretch-at}
 use Rattle.bodies.proofs.metadata_body.encoder_len.Goals as goal
 
-pub returns-in-At : goal.returns-in-At
+pub returns-in-Some : goal.returns-in-Some
 unfolding stretch
-returns-in-At c =
-    rw c.in-At.is (omega (arith, ap length c.part.ensures, ap length (stretch-at c.args.text.now c.in-At.is)))
+returns-in-Some c =
+    rw c.in-Some.is (omega (arith, ap length c.part.ensures, ap length (stretch-at c.args.text.now c.in-Some.is)))

@@ -5,7 +5,8 @@ use mathlib.Core.Path.{ap}
 use lib.ListN.{length}
 use Rattle.amf0.specs.Places.{stretch}
 use Rattle.bodies.specs.Fields.{field_bytes}
-use Rattle.bodies.proofs.FieldLaws.{no-put, stretch-at}
+use Rattle.bodies.proofs.FieldLaws.{stretch-at}
+use Rattle.octets.proofs.OutputLaws.{no-put}
 use borrow.Author.Rules.{rules}
 use Rattle.bodies.proofs.metadata_body.put_encoder.Goals as goal
 
@@ -13,13 +14,13 @@ pub put_text_property-requires : goal.put_text_property-requires
 unfolding stretch
 put_text_property-requires c =
     let l = ap length c.part.ensures in
-    let e = ap length (stretch-at c.args.text.now c.in-At.is) in
-    record { name_short = search rules; t_short = omega arith; room = omega (arith, rw c.in-At.is at c.requires.room) }
+    let e = ap length (stretch-at c.args.text.now c.in-Some.is) in
+    record { name_short = search rules; t_short = omega arith; room = omega (arith, rw c.in-Some.is at c.requires.room) }
 
-pub returns-in-At : goal.returns-in-At
+pub returns-in-Some : goal.returns-in-Some
 unfolding field_bytes stretch
-returns-in-At c = rw (c.in-At.is, ← c.part.ensures) (search rules)
+returns-in-Some c = rw (c.in-Some.is, ← c.part.ensures) (search rules)
 
-pub returns-in-Absent : goal.returns-in-Absent
+pub returns-in_default : goal.returns-in_default
 unfolding field_bytes
-returns-in-Absent c = rw c.in-Absent.is (record { put = no-put; value = omega arith })
+returns-in_default c = rw c.in_default.is (record { put = no-put; value = omega arith })

@@ -2,7 +2,7 @@
 -- Assumes nothing.
 use native.Mathlib.Omega.{arith}
 use Rattle.bodies.specs.Fields.{field_bytes}
-use Rattle.bodies.proofs.FieldLaws.{no-put}
+use Rattle.octets.proofs.OutputLaws.{no-put}
 use borrow.Author.Rules.{rules}
 use Rattle.bodies.proofs.metadata_body.put_flag.Goals as goal
 
@@ -14,6 +14,6 @@ pub returns-in-Some : goal.returns-in-Some
 unfolding field_bytes
 returns-in-Some c = rw c.in-Some.is (search rules)
 
-pub returns-in-None : goal.returns-in-None
+pub returns-in_default : goal.returns-in_default
 unfolding field_bytes
-returns-in-None c = rw c.in-None.is (record { put = no-put; value = omega arith })
+returns-in_default c = rw c.in_default.is (record { put = no-put; value = omega arith })

@@ -1,5 +1,6 @@
 -- `bodies::write_metadata` meets its contract: the names and the fields in their three groups, or no space.
 -- Assumes nothing.
+use borrow.Author.Rules.{rules}
 use native.Mathlib.Omega.{arith}
 use Rattle.octets.proofs.OutputLaws.{fitted, short}
 use Rattle.bodies.proofs.FieldLaws.{metadata-put, length-metadata}
@@ -9,4 +10,4 @@ pub returns-then-out-video_len : goal.returns-then-out-video_len
 returns-then-out-video_len c = short (simp length-metadata (omega arith))
 
 pub returns : goal.returns
-returns c = fitted (search metadata-put) (simp length-metadata (omega arith))
+returns c = fitted c.put_last.new.w c.new-w.ensures c.position.ensures (search metadata-put) (search rules) (simp length-metadata (omega arith))

@@ -6,10 +6,10 @@ use lib.ListN.{length}
 use Rattle.requests.specs.Texts.{fits}
 use Rattle.requests.proofs.text.fits.Goals as goal
 
-pub returns-then-s-gt255 : goal.returns-then-s-gt255
+pub returns-then-s-le255 : goal.returns-then-s-le255
 unfolding fits
-returns-then-s-gt255 c = rw (lt-leb (length c.args.s.now) 255 (omega arith))
+returns-then-s-le255 c = rw (le-leb (length c.args.s.now) 255 (omega arith)) c.is_utf8.ensures
 
-pub returns : goal.returns
+pub returns-else-s-le255 : goal.returns-else-s-le255
 unfolding fits
-returns c = rw (le-leb (length c.args.s.now) 255 (omega arith)) c.is_utf8.ensures
+returns-else-s-le255 c = rw (lt-leb (length c.args.s.now) 255 (omega arith))

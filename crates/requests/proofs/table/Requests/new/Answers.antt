@@ -5,4 +5,4 @@ use Rattle.requests.proofs.table.Requests.new.Goals as goal
 
 pub returns : goal.returns
 unfolding none
-returns c = rw c.empty_place-place.ensures
+returns c = rw c.empty.ensures

@@ -5,4 +5,4 @@ use Rattle.requests.proofs.text.Text.new.Goals as goal
 
 pub returns : goal.returns
 unfolding stored
-returns c = rw c.padded-bytes.ensures
+returns c = rw c.padded.ensures

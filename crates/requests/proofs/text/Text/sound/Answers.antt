@@ -1,27 +1,16 @@
--- `Text::sound` meets its contract: a length above 255 first, then the bytes of the text.
+-- `Text::sound` meets its contract: the length first, then the bytes of the text.
 -- Assumes nothing.
-use mathlib.Core.Path.{◌≡◌, sym}
+use mathlib.Core.Path.{ap, ◌∙◌}
 use native.Mathlib.Omega.{arith}
-use borrow.Author.Rules.{rules}
 use borrow.Author.Tests.{le-leb, lt-leb}
-use lib.ListN.{length}
-use lib.Seq.{length-take-le}
-use Rattle.requests.specs.Texts.{text_of, text_sound}
+use Rattle.octets.specs.Utf8.{utf8}
+use Rattle.requests.specs.Texts.{text_sound}
 use Rattle.requests.proofs.text.Text.sound.Goals as goal
 
-pub returns-then-len-gt255 : goal.returns-then-len-gt255
+pub returns-then-self-le255 : goal.returns-then-self-le255
 unfolding text_sound
-returns-then-len-gt255 c = rw (lt-leb c.args.self.len 255 (omega arith))
+returns-then-self-le255 c = rw (le-leb c.args.self.now.len 255 (omega arith)) (c.is_utf8.ensures ∙ ap utf8 c.as_slice.ensures)
 
-pub slice_bounds-bytes-end : goal.slice_bounds-bytes-end
-slice_bounds-bytes-end c = let n : length c.args.self.bytes ≡ 255 = search rules in omega arith
-
-pub slice_bounds-is_utf8-end : goal.slice_bounds-is_utf8-end
-slice_bounds-is_utf8-end c =
-    let t = c.args.self in
-    let n : length t.bytes ≡ 255 = search rules in
-    sym (length-take-le t.len t.bytes (omega arith))
-
-pub returns : goal.returns
-unfolding text_of text_sound
-returns c = rw (le-leb c.args.self.len 255 (omega arith)) c.is_utf8.ensures
+pub returns-else-self-le255 : goal.returns-else-self-le255
+unfolding text_sound
+returns-else-self-le255 c = rw (lt-leb c.args.self.now.len 255 (omega arith))
