@@ -1,98 +1,47 @@
 // A number for what a call answered, which the driver makes of the Rust session's answers too.
-use amf0::TextAt;
-use messages::{OptionBool, OptionF32, OptionU32, StreamMetadata};
-use session::{ClientSessionEvent, ClientSessionResult, Outcome, Packet};
+use messages::StreamMetadata;
+use octets::Span;
+use session::{ClientSessionError, ClientSessionEvent, ClientSessionResult, Outcome, Packet};
 
 fn sum(a: u64, b: u64) -> u64 {
-    std::num::wrapping_add_u64(a, b)
+    a.wrapping_add(b)
 }
 
-fn wide(b: u8) -> u64 {
-    b as u64
-}
-
-// The last byte of a body that starts at `start`, if it has one.
-fn last(out: &[u8], start: usize, len: usize) -> u64 {
-    let body = octets::part(out, start, len);
-    if body.len() == 0 {
-        return 0;
-    }
-    wide(body[body.len() - 1])
-}
-
-// 1, 256 for one that may be dropped, and the body's last byte.
+// 1, 256 for one that may be dropped, and the body's last byte, if it has one.
 fn packet(p: Packet, out: &[u8]) -> u64 {
-    let b = last(out, p.start, p.len);
-    if p.droppable {
-        return sum(b, 257);
-    }
-    sum(b, 1)
+    let last = octets::part(out, p.start, p.len).last().copied();
+    let b = u64::from(last.unwrap_or(0));
+    if p.droppable { b + 257 } else { b + 1 }
 }
 
-fn whole(x: OptionU32) -> u64 {
+fn whole(x: Option<u32>) -> u64 {
+    x.map_or(0, u64::from)
+}
+
+fn one_or_two(x: Option<bool>) -> u64 {
     match x {
-        OptionU32::None => 0,
-        OptionU32::Some(n) => n as u64,
+        None => 0,
+        Some(true) => 1,
+        Some(false) => 2,
     }
-}
-
-fn rate(x: OptionF32) -> u64 {
-    match x {
-        OptionF32::None => 0,
-        OptionF32::Some(n) => {
-            if n < 1.0 {
-                return 1;
-            }
-            2
-        }
-    }
-}
-
-fn flag(x: OptionBool) -> u64 {
-    match x {
-        OptionBool::None => 0,
-        OptionBool::Some(n) => {
-            if n {
-                return 1;
-            }
-            2
-        }
-    }
-}
-
-fn text(x: TextAt) -> u64 {
-    match x {
-        TextAt::At { start: _, len } => len as u64,
-        TextAt::Absent => 0,
-    }
-}
-
-fn video(m: StreamMetadata) -> u64 {
-    let width = m.video_width;
-    let height = m.video_height;
-    let codec = m.video_codec_id;
-    let bitrate = m.video_bitrate_kbps;
-    let frames = m.video_frame_rate;
-    let size = sum(whole(width), whole(height));
-    let coding = sum(whole(codec), whole(bitrate));
-    sum(sum(size, coding), rate(frames))
-}
-
-fn audio(m: StreamMetadata) -> u64 {
-    let codec = m.audio_codec_id;
-    let bitrate = m.audio_bitrate_kbps;
-    let samples = m.audio_sample_rate;
-    let channels = m.audio_channels;
-    let stereo = m.audio_is_stereo;
-    let coding = sum(whole(codec), whole(bitrate));
-    let rates = sum(whole(samples), whole(channels));
-    sum(sum(coding, rates), flag(stereo))
 }
 
 // The sum of the numbers, of the encoder's length, and of a number for each of the two fields that are none.
 fn metadata(m: StreamMetadata) -> u64 {
-    let encoder = m.encoder;
-    sum(sum(video(m), audio(m)), text(encoder))
+    let numbers = [
+        m.video_width,
+        m.video_height,
+        m.video_codec_id,
+        m.video_bitrate_kbps,
+        m.audio_codec_id,
+        m.audio_bitrate_kbps,
+        m.audio_sample_rate,
+        m.audio_channels,
+    ];
+    let mut total = one_or_two(m.video_frame_rate.map(|n| n < 1.0));
+    total = sum(total, one_or_two(m.audio_is_stereo));
+    total = sum(total, m.encoder.map_or(0, |place| place.len as u64));
+    numbers.iter().fold(total, |a, &n| sum(a, whole(n)))
 }
 
 fn event(e: ClientSessionEvent) -> u64 {
@@ -117,22 +66,22 @@ fn result(r: ClientSessionResult, out: &[u8]) -> u64 {
 }
 
 // A refusal gives what no other answer gives.
-pub fn of(outcome: Outcome, out: &[u8]) -> u64 {
+pub fn of(outcome: Result<Outcome, ClientSessionError>, out: &[u8]) -> u64 {
     match outcome {
-        Outcome::Refused(_) => 1000000000000,
-        Outcome::Nothing => 0,
-        Outcome::One(r) => result(r, out),
-        Outcome::Two(a, b) => sum(packet(a, out), packet(b, out)),
-        Outcome::Accepted(a, b) => sum(sum(packet(a, out), packet(b, out)), 1),
-        Outcome::Pinged(a, _) => packet(a, out),
+        Err(_) => 1000000000000,
+        Ok(Outcome::Nothing) => 0,
+        Ok(Outcome::One(r)) => result(r, out),
+        Ok(Outcome::Two(a, b)) => sum(packet(a, out), packet(b, out)),
+        Ok(Outcome::Accepted(a, b)) => sum(sum(packet(a, out), packet(b, out)), 1),
+        Ok(Outcome::Pinged(a, _)) => packet(a, out),
     }
 }
 
 // The same, for counts of bytes, which answer nothing or one message.
-pub fn counted(outcome: Outcome, out: &[u8]) -> u64 {
+pub fn counted(outcome: Result<Outcome, ClientSessionError>, out: &[u8]) -> u64 {
     match outcome {
-        Outcome::Nothing => 0,
-        Outcome::One(r) => match r {
+        Ok(Outcome::Nothing) => 0,
+        Ok(Outcome::One(r)) => match r {
             ClientSessionResult::OutboundResponse(p) => packet(p, out),
             _ => 1,
         },
@@ -141,10 +90,10 @@ pub fn counted(outcome: Outcome, out: &[u8]) -> u64 {
 }
 
 // A sum and the same of an outcome, for messages that raise an event or nothing.
-pub fn raised(before: u64, outcome: Outcome) -> u64 {
+pub fn raised(before: u64, outcome: Result<Outcome, ClientSessionError>) -> u64 {
     match outcome {
-        Outcome::Nothing => before,
-        Outcome::One(r) => match r {
+        Ok(Outcome::Nothing) => before,
+        Ok(Outcome::One(r)) => match r {
             ClientSessionResult::RaisedEvent(e) => sum(before, event(e)),
             _ => sum(before, 1),
         },

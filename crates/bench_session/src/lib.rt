@@ -6,15 +6,13 @@ mod answers;
 
 use messages::{RtmpTimestamp, StreamNumber};
 use requests::{OutstandingTransaction, Requests};
-use session::{
-    ActiveStream, ClientSession, ClientSessionConfig, ClientState, Link, PeerWindow, Progress,
-};
+use session::{ClientSession, ClientSessionConfig, ClientState, Link, Progress};
 
 // On stream 1.
 fn at(state: ClientState) -> Progress {
     Progress {
         state,
-        active: ActiveStream::Some(StreamNumber(1)),
+        active: Some(StreamNumber(1)),
     }
 }
 
@@ -30,25 +28,17 @@ fn stage(number: u8) -> ClientState {
 }
 
 fn opened() -> ClientSession {
-    let called = ClientSession::new(ClientSessionConfig::new());
-    called.session
+    ClientSession::new(ClientSessionConfig::new()).session
 }
 
-fn asked(requests: Requests) -> Requests {
-    let taken = requests.take(
-        OutstandingTransaction::ConnectionRequested,
-        b"a stream key of 32 bytes, or so.",
-    );
-    taken.requests
-}
-
-// With `open` requests, at most eight.
+// With `open` requests; more than eight can't be taken.
 fn asking(open: u8) -> Requests {
     let mut requests = Requests::new();
-    let mut i: u8 = 0;
-    while i < open {
-        requests = asked(requests);
-        i += 1;
+    for _ in 0..open {
+        let _number = requests.take(
+            OutstandingTransaction::ConnectionRequested,
+            b"a stream key of 32 bytes, or so.",
+        );
     }
     requests
 }
@@ -56,10 +46,8 @@ fn asking(open: u8) -> Requests {
 // At that stage, with `open` requests open.
 fn at_stage(number: u8, open: u8) -> ClientSession {
     let mut session = opened();
-    let progress = at(stage(number));
-    session.progress = progress;
-    let requests = asking(open);
-    session.requests = requests;
+    session.progress = at(stage(number));
+    session.requests = asking(open);
     session
 }
 
@@ -68,14 +56,11 @@ fn at_stage(number: u8, open: u8) -> ClientSession {
 pub extern "C" fn bench_picture(rounds: u32, open: u8, data: &[u8], out: &mut [u8]) -> u64 {
     let mut session = at_stage(5, open);
     let mut sum: u64 = 0;
-    let mut i: u32 = 0;
-    while i < rounds {
+    for i in 0..rounds {
         let time = RtmpTimestamp(i);
-        i += 1;
         let called = session.publish_video_data(time, data, time, true, out);
         session = called.session;
-        let outcome = called.outcome;
-        sum = std::num::wrapping_add_u64(sum, answers::of(outcome, out));
+        sum = sum.wrapping_add(answers::of(called.outcome, out));
     }
     sum
 }
@@ -85,14 +70,11 @@ pub extern "C" fn bench_picture(rounds: u32, open: u8, data: &[u8], out: &mut [u
 pub extern "C" fn bench_sound(rounds: u32, open: u8, data: &[u8], out: &mut [u8]) -> u64 {
     let mut session = at_stage(5, open);
     let mut sum: u64 = 0;
-    let mut i: u32 = 0;
-    while i < rounds {
+    for i in 0..rounds {
         let time = RtmpTimestamp(i);
-        i += 1;
         let called = session.publish_audio_data(time, data, time, true, out);
         session = called.session;
-        let outcome = called.outcome;
-        sum = std::num::wrapping_add_u64(sum, answers::of(outcome, out));
+        sum = sum.wrapping_add(answers::of(called.outcome, out));
     }
     sum
 }
@@ -110,15 +92,12 @@ pub extern "C" fn bench_message(
     let mut session = at_stage(number, open);
     let progress = session.progress;
     let mut sum: u64 = 0;
-    let mut i: u32 = 0;
-    while i < rounds {
+    for i in 0..rounds {
         let time = RtmpTimestamp(i);
-        i += 1;
         session.progress = progress;
         let called = session.handle_message(time, type_id, time, StreamNumber(1), body, out);
         session = called.session;
-        let outcome = called.outcome;
-        sum = std::num::wrapping_add_u64(sum, answers::of(outcome, out));
+        sum = sum.wrapping_add(answers::of(called.outcome, out));
     }
     sum
 }
@@ -127,8 +106,7 @@ pub extern "C" fn bench_message(
 fn lent(mut session: ClientSession, rounds: u32, type_id: u8, body: &[u8]) -> u64 {
     let mut out = [0u8; 0];
     let mut sum: u64 = 0;
-    let mut i: u32 = 0;
-    while i < rounds {
+    for i in 0..rounds {
         let time = RtmpTimestamp(i);
         let outcome = borrowing::handle_message(
             &mut session,
@@ -140,7 +118,6 @@ fn lent(mut session: ClientSession, rounds: u32, type_id: u8, body: &[u8]) -> u6
             &mut out,
         );
         sum = answers::raised(sum, outcome);
-        i += 1;
     }
     sum
 }
@@ -162,22 +139,18 @@ pub extern "C" fn bench_bytes(
     out: &mut [u8],
 ) -> u64 {
     let mut session = at_stage(0, open);
-    let link = Link {
+    session.link = Link {
         chunk: 128,
-        window: PeerWindow::Some(window),
+        window: Some(window),
         pending: 0,
         total: 0,
     };
-    session.link = link;
     let mut sum: u64 = 0;
-    let mut i: u32 = 0;
-    while i < rounds {
+    for i in 0..rounds {
         let time = RtmpTimestamp(i);
-        i += 1;
         let called = session.handle_bytes(time, count, out);
         session = called.session;
-        let outcome = called.outcome;
-        sum = std::num::wrapping_add_u64(sum, answers::counted(outcome, out));
+        sum = sum.wrapping_add(answers::counted(called.outcome, out));
     }
     sum
 }
@@ -197,15 +170,13 @@ fn connected(
     out: &mut [u8],
 ) -> Answered {
     let asked = session.request_connection(time, app, out);
-    let outcome = asked.outcome;
-    let sum = answers::of(outcome, out);
-    let asking = asked.session;
-    let called = asking.handle_message(time, 20, time, StreamNumber(0), reply, out);
-    let outcome = called.outcome;
-    let after = called.session;
+    let sum = answers::of(asked.outcome, out);
+    let called = asked
+        .session
+        .handle_message(time, 20, time, StreamNumber(0), reply, out);
     Answered {
-        sum: std::num::wrapping_add_u64(sum, answers::of(outcome, out)),
-        session: after,
+        sum: sum.wrapping_add(answers::of(called.outcome, out)),
+        session: called.session,
     }
 }
 
@@ -221,15 +192,13 @@ pub extern "C" fn bench_connect(
     let mut session = at_stage(0, open);
     let progress = session.progress;
     let mut sum: u64 = 0;
-    let mut i: u32 = 0;
-    while i < rounds {
+    for i in 0..rounds {
         let time = RtmpTimestamp(i);
-        i += 1;
         session.progress = progress;
         session.requests.next = 1;
         let done = connected(session, time, app, reply, out);
         session = done.session;
-        sum = std::num::wrapping_add_u64(sum, done.sum);
+        sum = sum.wrapping_add(done.sum);
     }
     sum
 }

@@ -1,6 +1,6 @@
 -- The calls that borrow the session. Each counts as the call whose result it stores.
 -- Assumes nothing.
-use Rattle.std.specs.Prelude.{ℕ, Bool, ◌||◌, List, eqb}
+use Rattle.std.specs.Prelude.{ℕ, Bool, ◌||◌, List, eqb, Result}
 use Rattle.messages.specs.Numbers.{type_number, audio, video}
 use Rattle.messages.specs.declared.ids.RtmpTimestamp.{RtmpTimestamp}
 use Rattle.requests.specs.declared.outstanding_transaction.OutstandingTransaction.{OutstandingTransaction}
@@ -8,6 +8,7 @@ use Rattle.requests.specs.declared.outstanding_transaction.OutstandingTransactio
 use Rattle.requests.specs.declared.outstanding_transaction.TransactionPurpose.TheVariants.{PlayRequest, PublishRequest}
 use Rattle.session.specs.Calls.{Call, connect, play, publish}
 use Rattle.session.specs.Contract.{Does}
+use Rattle.session.specs.declared.errors.ClientSessionError.{ClientSessionError}
 use Rattle.session.specs.declared.record.ClientSession.{ClientSession}
 use Rattle.session.specs.declared.result.Outcome.{Outcome}
 
@@ -22,5 +23,5 @@ abbrev pub is_media : ℕ → Bool
 is_media k = eqb k (type_number audio) || eqb k (type_number video)
 
 -- The contract of a borrowing call: its answer, the session stored and the lent output at exit are those of the call by value.
-abbrev pub Stores : ClientSession → RtmpTimestamp → Call → List ℕ → Outcome → ClientSession → List ℕ → Type 0
+abbrev pub Stores : ClientSession → RtmpTimestamp → Call → List ℕ → Result Outcome ClientSessionError → ClientSession → List ℕ → Type 0
 Stores s clock c old o after exit = Does s clock c old (record { outcome = o; session = after }) exit

@@ -9,7 +9,7 @@ ghost use Rattle.borrowing.specs.Borrowed.{request_call, is_media, Stores};
 
 use messages::{RtmpTimestamp, StreamNumber};
 use requests::{OutstandingTransaction, TransactionPurpose};
-use session::{Called, ClientSession, Outcome};
+use session::{Called, ClientSession, ClientSessionError, Outcome};
 
 // The request of that kind, by value.
 fn requested(
@@ -41,7 +41,7 @@ pub fn request(
     kind: OutstandingTransaction,
     text: &[u8],
     out: &mut [u8],
-) -> Outcome
+) -> Result<Outcome, ClientSessionError>
     ensures { Stores session.old clock (request_call kind text.now) out.old result session.new out.new }
 {
     let s = *session;
@@ -66,13 +66,13 @@ pub fn handle_message(
     stream: StreamNumber,
     body: &[u8],
     out: &mut [u8],
-) -> Outcome
+) -> Result<Outcome, ClientSessionError>
     ensures { Stores session.old clock (message type_id time stream body.now) out.old result session.new out.new }
 {
-    let s = *session;
     if is_media(type_id) {
-        return s.media_outcome(type_id, time, stream, body);
+        return session.media_outcome(type_id, time, stream, body);
     }
+    let s = *session;
     let called = s.handle_message(clock, type_id, time, stream, body, out);
     *session = called.session;
     called.outcome
@@ -84,7 +84,7 @@ pub fn handle_bytes(
     clock: RtmpTimestamp,
     count: u32,
     out: &mut [u8],
-) -> Outcome
+) -> Result<Outcome, ClientSessionError>
     ensures { Stores session.old clock (bytes count) out.old result session.new out.new }
 {
     let s = *session;

@@ -7,9 +7,9 @@ use mathlib.Core.Logic.{◌⊎◌, inl, inr, ◌≢◌}
 use mathlib.Core.Bool.{Bool, true, false, cond, ◌||◌, true≢false}
 use mathlib.Core.List.Memᴰ
 use mathlib.Core.List.{List, [], ◌∷◌, ◌++◌, Memᴰ}
-use mathlib.Core.Option.{Option, none, some}
 use lib.Dec.{eqb}
 use borrow.Author.Tests.{eqb-true, eq-eqb}
+use Rattle.std.specs.Prelude.{Option, Some, None}
 use Rattle.requests.specs.declared.outstanding_transaction.OutstandingTransaction.{OutstandingTransaction}
 use Rattle.journal.specs.Lines.{Line, Journal, Each}
 use Rattle.journal.specs.Rule.{Said, nothing, asked, resulted, failed, started_play, started_publish, deleted, said, open_by, rule_open, found_or, latest, any_since, is_own, is_deleted, mark, grant_at, stage_by, stage_of, rule_stage, active_of, rule_active, latest_grant}
@@ -19,26 +19,26 @@ use Rattle.journal.proofs.EachLaws.{each_none, each_more, each_first, each-rest}
 -- ---- the latest line that is
 
 module _ {A : Type 0} (is : Line → Journal → Option A) where
-  never-found : (j : Journal) → Never is j → latest is j ≡ none
+  never-found : (j : Journal) → Never is j → latest is j ≡ None
   unfolding latest found_or
   never-found [] n = refl
   never-found (l ∷ j) n = rw (each_first _ l j n, never-found j (each-rest _ l j n))
 
-  found-at : (since : List Line) (line : Line) (before : Journal) (a : A) → is line before ≡ some a
-      → Each (λ l between. is l (between ++ (line ∷ before)) ≡ none) since
-      → latest is (since ++ (line ∷ before)) ≡ some (record { what = a; since = since })
+  found-at : (since : List Line) (line : Line) (before : Journal) (a : A) → is line before ≡ Some a
+      → Each (λ l between. is l (between ++ (line ∷ before)) ≡ None) since
+      → latest is (since ++ (line ∷ before)) ≡ Some (record { what = a; since = since })
   unfolding latest found_or
   found-at [] line before a f n = rw f
   found-at (l ∷ since) line before a f n = rw (each_first _ l since n, found-at since line before a f (each-rest _ l since n))
 
-  latest-found : (j : Journal) (a : A) (w : Latest is j a) → latest is j ≡ some (record { what = a; since = w.since })
+  latest-found : (j : Journal) (a : A) (w : Latest is j a) → latest is j ≡ Some (record { what = a; since = w.since })
   latest-found j a w = ap (latest is) w.stands ∙ found-at w.since w.line w.before a w.found w.no_later
 
   -- the line at the front, and one further back
-  front : (l : Line) (j : Journal) (a : A) → is l j ≡ some a → Latest is (l ∷ j) a
+  front : (l : Line) (j : Journal) (a : A) → is l j ≡ Some a → Latest is (l ∷ j) a
   front l j a e = record { since = []; line = l; before = j; stands = refl; found = e; no_later = each_none _ }
 
-  back : (l : Line) (j : Journal) (a : A) → is l j ≡ none → Latest is j a → Latest is (l ∷ j) a
+  back : (l : Line) (j : Journal) (a : A) → is l j ≡ None → Latest is j a → Latest is (l ∷ j) a
   back l j a e w =
       record {
         since = l ∷ w.since;
@@ -54,9 +54,9 @@ module _ {A : Type 0} (is : Line → Journal → Option A) where
   search-of (l ∷ j) = go (is l j) refl (search-of j)
     where
       go : (o : Option A) → is l j ≡ o → Never is j ⊎ ((a : A) × Latest is j a) → Never is (l ∷ j) ⊎ ((a : A) × Latest is (l ∷ j) a)
-      go (some a) e r = inr (a, front l j a e)
-      go none e (inl n) = inl (each_more _ l j e n)
-      go none e (inr w) = inr (w.0, back l j w.0 e w.1)
+      go (Some a) e r = inr (a, front l j a e)
+      go None e (inl n) = inl (each_more _ l j e n)
+      go None e (inr w) = inr (w.0, back l j w.0 e w.1)
 
 -- ---- came since
 
@@ -89,34 +89,34 @@ module _ (is : Said → Bool) where
 
 -- ---- open requests
 
-no_none : {A : Type 0} (a : A) → some a ≢ none
+no_none : {A : Type 0} (a : A) → Some a ≢ None
 no_none a e = let z : ◌≡◌ {A = ℕ} 0 1 = cc in omega arith
 
 -- a line that has no reply to n leaves n open
-open_still : (w : Said) (n : ℕ) (o : Option OutstandingTransaction) → reply_number w ≢ some n → o ≢ none → open_by w n o ≢ none
+open_still : (w : Said) (n : ℕ) (o : Option OutstandingTransaction) → reply_number w ≢ Some n → o ≢ None → open_by w n o ≢ None
 unfolding open_by
 open_still nothing n o h g = g
 open_still (asked m k) n o h g = go (eqb m n)
   where
-    go : (b : Bool) → cond b (some k) o ≢ none
+    go : (b : Bool) → cond b (Some k) o ≢ None
     go true = no_none k
     go false = g
 open_still (resulted m x) n o h g = go (eqb m n) refl
   where
-    go : (b : Bool) → eqb m n ≡ b → cond b none o ≢ none
-    go true e = absurd (h (ap some (eqb-true m n e)))
+    go : (b : Bool) → eqb m n ≡ b → cond b None o ≢ None
+    go true e = absurd (h (ap Some (eqb-true m n e)))
     go false e = g
 open_still (failed m) n o h g = go (eqb m n) refl
   where
-    go : (b : Bool) → eqb m n ≡ b → cond b none o ≢ none
-    go true e = absurd (h (ap some (eqb-true m n e)))
+    go : (b : Bool) → eqb m n ≡ b → cond b None o ≢ None
+    go true e = absurd (h (ap Some (eqb-true m n e)))
     go false e = g
 open_still started_play n o h g = g
 open_still started_publish n o h g = g
 open_still deleted n o h g = g
 
 open-given : (since : List Line) (line : Line) (before : Journal) (n : ℕ) (k : OutstandingTransaction) → said line ≡ asked n k
-    → ((l : Line) → Memᴰ l since → reply_number (said l) ≢ some n) → rule_open (since ++ (line ∷ before)) n ≢ none
+    → ((l : Line) → Memᴰ l since → reply_number (said l) ≢ Some n) → rule_open (since ++ (line ∷ before)) n ≢ None
 unfolding rule_open open_by
 open-given [] line before n k e h = rw (e, eq-eqb n n refl) (no_none k)
 open-given (l ∷ since) line before n k e h =
@@ -124,42 +124,42 @@ open-given (l ∷ since) line before n k e h =
 
 -- an open number was given by this line, or was open before it and the line is no reply to it
 abbrev Either : Said → ℕ → OutstandingTransaction → Option OutstandingTransaction → Type 0
-Either w n k o = (w ≡ asked n k) ⊎ ((reply_number w ≢ some n) × (o ≡ some k))
+Either w n k o = (w ≡ asked n k) ⊎ ((reply_number w ≢ Some n) × (o ≡ Some k))
 
-silent : (n : ℕ) → none ≢ some n
+silent : (n : ℕ) → None ≢ Some n
 silent n e = let z : ◌≡◌ {A = ℕ} 0 1 = cc in omega arith
 
-other-number : (m n : ℕ) → eqb m n ≡ false → some m ≢ some n
+other-number : (m n : ℕ) → eqb m n ≡ false → Some m ≢ Some n
 other-number m n e q = let p : m ≡ n = cc in true≢false (sym (eq-eqb m n p) ∙ e)
 
-open-cases : (w : Said) (n : ℕ) (k : OutstandingTransaction) (o : Option OutstandingTransaction) → open_by w n o ≡ some k → Either w n k o
+open-cases : (w : Said) (n : ℕ) (k : OutstandingTransaction) (o : Option OutstandingTransaction) → open_by w n o ≡ Some k → Either w n k o
 unfolding open_by
 open-cases nothing n k o h = inr (silent n, h)
 open-cases (asked m i) n k o h = go (eqb m n) refl h
   where
-    go : (b : Bool) → eqb m n ≡ b → cond b (some i) o ≡ some k → Either (asked m i) n k o
+    go : (b : Bool) → eqb m n ≡ b → cond b (Some i) o ≡ Some k → Either (asked m i) n k o
     go true e h = inl (let p : m ≡ n = eqb-true m n e in let q : i ≡ k = cc in rw (p, q))
     go false e h = inr (silent n, h)
 open-cases (resulted m x) n k o h = go (eqb m n) refl h
   where
-    go : (b : Bool) → eqb m n ≡ b → cond b none o ≡ some k → Either (resulted m x) n k o
+    go : (b : Bool) → eqb m n ≡ b → cond b None o ≡ Some k → Either (resulted m x) n k o
     go true e h = let z : ◌≡◌ {A = ℕ} 0 1 = cc in absurd (omega arith)
     go false e h = inr (other-number m n e, h)
 open-cases (failed m) n k o h = go (eqb m n) refl h
   where
-    go : (b : Bool) → eqb m n ≡ b → cond b none o ≡ some k → Either (failed m) n k o
+    go : (b : Bool) → eqb m n ≡ b → cond b None o ≡ Some k → Either (failed m) n k o
     go true e h = let z : ◌≡◌ {A = ℕ} 0 1 = cc in absurd (omega arith)
     go false e h = inr (other-number m n e, h)
 open-cases started_play n k o h = inr (silent n, h)
 open-cases started_publish n k o h = inr (silent n, h)
 open-cases deleted n k o h = inr (silent n, h)
 
-unanswered : (j : Journal) (n : ℕ) (k : OutstandingTransaction) → rule_open j n ≡ some k → Unanswered j n k
+unanswered : (j : Journal) (n : ℕ) (k : OutstandingTransaction) → rule_open j n ≡ Some k → Unanswered j n k
 unfolding rule_open
 unanswered [] n k h = let z : ◌≡◌ {A = ℕ} 0 1 = cc in absurd (omega arith)
 unanswered (l ∷ j) n k h = go (open-cases (said l) n k (rule_open j n) h) (unanswered j n k)
   where
-    further : reply_number (said l) ≢ some n → Unanswered j n k → Unanswered (l ∷ j) n k
+    further : reply_number (said l) ≢ Some n → Unanswered j n k → Unanswered (l ∷ j) n k
     further q w =
         record {
           since = l ∷ w.since;
@@ -170,11 +170,11 @@ unanswered (l ∷ j) n k h = go (open-cases (said l) n k (rule_open j n) h) (una
           no_reply = λ m t. later m (Memᴰ.cases_cons t);
         }
       where
-        later : (m : Line) → (m ≡ l) ⊎ Memᴰ m w.since → reply_number (said m) ≢ some n
+        later : (m : Line) → (m ≡ l) ⊎ Memᴰ m w.since → reply_number (said m) ≢ Some n
         later m (inl e) = rw e q
         later m (inr t) = w.no_reply m t
 
-    go : Either (said l) n k (rule_open j n) → (rule_open j n ≡ some k → Unanswered j n k) → Unanswered (l ∷ j) n k
+    go : Either (said l) n k (rule_open j n) → (rule_open j n ≡ Some k → Unanswered j n k) → Unanswered (l ∷ j) n k
     go (inl e) f = record { since = []; line = l; before = j; stands = refl; gave = e; no_reply = λ m t. absurd (Memᴰ.not-nil t) }
     go (inr r) f = further r.0 (f r.1)
 

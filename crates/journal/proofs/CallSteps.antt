@@ -14,7 +14,9 @@ use denote.Triple.Entry.{Args}
 use types.Logic.{Logic}
 use prog.Memory.{Memory}
 use prog.Routine.{Routine}
+use Rattle.std.specs.Prelude.{Result, Ok}
 use Rattle.session.specs.Calls.{connect, play, publish, stop_playback, stop_publishing, ping, picture, sound, metadata, bytes, message}
+use Rattle.session.specs.declared.errors.ClientSessionError.{ClientSessionError}
 use Rattle.session.specs.declared.record.Called.{Called}
 use Rattle.session.specs.declared.result.Outcome.{Outcome}
 use Rattle.session.specs.declared.result.Outcome.TheVariants.{Nothing}
@@ -50,7 +52,7 @@ use Rattle.journal.specs.Lines.{Journal}
 use Rattle.journal.specs.Trace.{line_of, Trace, opened, called, request_borrowed, message_borrowed, bytes_borrowed}
 
 pub opening_step : (κs : Lfts 0) (a : Dens κs new_kinds.ps) (r : Called) (x : AtExit (ended_of 0 new_kinds.ps new_kinds.r) κs)
-    → new.Learnt κs a r x → r.outcome ≡ Nothing → Trace r.session []
+    → new.Learnt κs a r x → r.outcome ≡ Ok Nothing → Trace r.session []
 opening_step κs a r x d o = opened a.0 r d o
 
 pub request_connection_step : (κs : Lfts 2) (a : Dens κs request_connection_kinds.ps) (r : Called) (x : AtExit (ended_of 2 request_connection_kinds.ps request_connection_kinds.r) κs)
@@ -99,7 +101,7 @@ handle_message_step κs a r x d t = called t _ a.1.0 a.1.1.1.1.1.1.0.now r x.1.1
 
 -- ---- the borrowing calls
 
-module _ {M : Type 1} {𝓤 : Ura M} (𝓛 : Logic 𝓤) (mem : Memory → SProp 𝓤) (run : Routine → Fun 𝓤) (r : Outcome) {j : Journal} where
+module _ {M : Type 1} {𝓤 : Ura M} (𝓛 : Logic 𝓤) (mem : Memory → SProp 𝓤) (run : Routine → Fun 𝓤) (r : Result Outcome ClientSessionError) {j : Journal} where
   pub borrowed_request_step : (κs : Lfts 3) (a : Args borrowed_request.signature κs) (x : AtExit borrowed_request.ended κs) → Trace a.0.now j
       → ent 𝓤 ((borrowed_request.clauses 𝓛 mem run κs a).ensures tt r x)
       (fact 𝓤 (Trace x.0.now (line_of (request_call a.1.1.0 a.1.1.1.0.now) r x.1.1.1.1.0.now ∷ j)))

@@ -6,12 +6,13 @@ use mathlib.Core.Path.{◌≡◌, refl, sym, ap, ◌∙◌}
 use mathlib.Core.Bool.{Bool, true, false, cond, ◌&&◌, ◌||◌, true≢false}
 use mathlib.Core.List.Memᴰ
 use mathlib.Core.List.{List, [], ◌∷◌}
-use mathlib.Core.Option.{Option, some}
 use lib.Dec.{eqb, leb}
+use Rattle.std.specs.Prelude.{Option, Some, None}
 use Rattle.messages.specs.declared.ids.RtmpTimestamp.{RtmpTimestamp}
 use Rattle.messages.specs.declared.ids.StreamNumber.{StreamNumber}
 use Rattle.bodies.proofs.SentLaws.{delete_stream-deletes}
-use Rattle.requests.specs.Places.{Request}
+use Rattle.requests.specs.Places.{}
+use Rattle.requests.specs.declared.place.Request.{Request}
 use Rattle.requests.specs.Table.{requests_sound, eight_open, asked}
 use Rattle.requests.specs.declared.outstanding_transaction.OutstandingTransaction.{OutstandingTransaction}
 use Rattle.requests.proofs.BoolLaws.{by_cases, and_right}
@@ -21,11 +22,7 @@ use Rattle.session.specs.Numbers.{refusal_number}
 use Rattle.session.specs.Outcomes.{in_turn, sent_by}
 use Rattle.session.specs.Record.{texts_sound, chunk_sound, is_session, with_progress, with_requests}
 use Rattle.session.specs.Plan.{Check, is_play, is_publish, is_publishing, unless_stage, if_long, if_spent, if_eight_open, request, stopped, stop, published_on, published, counted_by, count}
-use Rattle.session.specs.declared.record.ActiveStream.{ActiveStream}
-use Rattle.session.specs.declared.record.ActiveStream.TheVariants as active
 use Rattle.session.specs.declared.record.ClientSession.{ClientSession}
-use Rattle.session.specs.declared.record.PeerWindow.{PeerWindow}
-use Rattle.session.specs.declared.record.PeerWindow.TheVariants as window
 use Rattle.session.specs.declared.state.ClientState.{ClientState}
 use Rattle.session.specs.declared.state.ClientState.TheVariants.{Disconnected, Connected, PlayRequested, Playing, PublishRequested, Publishing}
 use Rattle.session_laws.specs.Sound.{Sound}
@@ -42,7 +39,7 @@ unfolding is_session
 requests-sound s h = and_right (texts_sound s.config && chunk_sound s.config.chunk_size) (requests_sound s.requests) h.session
 
 -- the kind of a request that was put in
-kind-put : (b : Bool) (q : Request) (o : Option Request) → kind_of (cond b (some q) o) ≡ cond b (some q.kind) (kind_of o)
+kind-put : (b : Bool) (q : Request) (o : Option Request) → kind_of (cond b (Some q) o) ≡ cond b (Some q.kind) (kind_of o)
 kind-put true q o = refl
 kind-put false q o = refl
 
@@ -77,18 +74,18 @@ idle g e (inr q) = true≢false (sym e ∙ ap streaming q)
 
 -- ---- stops
 
-stops : (s : ClientSession) → Moves s deleted (with_progress s Connected active.None)
+stops : (s : ClientSession) → Moves s deleted (with_progress s Connected None)
 unfolding stage_after active_after open_by
 stops s = record { stage_moves = refl; active_moves = refl; open_moves = λ n. refl }
 
 abbrev pub stopping : View
 stopping = record { well = stop_said; pictures = false; asking = 0 }
 
-good-stopped : (s : ClientSession) (clock : RtmpTimestamp) (a : ActiveStream) → s.progress.active ≡ a → Sound s
+good-stopped : (s : ClientSession) (clock : RtmpTimestamp) (a : Option StreamNumber) → s.progress.active ≡ a → Sound s
     → streaming s.progress.state ≡ true → Good s stopping (stopped s clock a)
 unfolding sent_by in_turn delete_sent no_picture
-good-stopped s clock active.None q h g = absurd (idle s.progress.state g (h.streamed.idle q))
-good-stopped s clock (active.Some x) q h g =
+good-stopped s clock None q h g = absurd (idle s.progress.state g (h.streamed.idle q))
+good-stopped s clock (Some x) q h g =
     record { moves = λ n. rw (delete_stream-deletes x.0 (h.streamed.below x q)) (stops s); carries = carries-none s false _ refl }
 
 pub good-stop : (s : ClientSession) (clock : RtmpTimestamp) (own : ClientState → Bool) → Sound s
@@ -122,16 +119,16 @@ publishing-streams Publishing e = refl
 abbrev pub publishing : Bool → View
 publishing is_one = record { well = λ ms. nothing; pictures = is_one; asking = 0 }
 
-good-published-on : (s : ClientSession) (clock : RtmpTimestamp) (given : Check) (message : StreamNumber → Message) (is_one : Bool) (a : ActiveStream)
+good-published-on : (s : ClientSession) (clock : RtmpTimestamp) (given : Check) (message : StreamNumber → Message) (is_one : Bool) (a : Option StreamNumber)
     → s.progress.active ≡ a → Sound s → streaming s.progress.state ≡ true → mild (refusal_number given.says) ≡ true
-    → ((x : StreamNumber) → s.progress.active ≡ active.Some x → Carries s is_one (message x ∷ [])) → Good s (publishing is_one) (published_on s clock given message a)
+    → ((x : StreamNumber) → s.progress.active ≡ Some x → Carries s is_one (message x ∷ [])) → Good s (publishing is_one) (published_on s clock given message a)
 unfolding sent_by in_turn
-good-published-on s clock given message is_one active.None q h g m f = absurd (idle s.progress.state g (h.streamed.idle q))
-good-published-on s clock given message is_one (active.Some x) q h g m f =
+good-published-on s clock given message is_one None q h g m f = absurd (idle s.progress.state g (h.streamed.idle q))
+good-published-on s clock given message is_one (Some x) q h g m f =
     good_order s (publishing is_one) (given ∷ []) _ (rw m) λ c. record { moves = λ n. still s s refl refl; carries = f x q }
 
 pub good-published : (s : ClientSession) (clock : RtmpTimestamp) (given : Check) (message : StreamNumber → Message) (is_one : Bool) → Sound s
-    → mild (refusal_number given.says) ≡ true → ((x : StreamNumber) → s.progress.active ≡ active.Some x → Carries s is_one (message x ∷ []))
+    → mild (refusal_number given.says) ≡ true → ((x : StreamNumber) → s.progress.active ≡ Some x → Carries s is_one (message x ∷ []))
     → Good s (publishing is_one) (published s clock given message)
 unfolding published
 good-published s clock given message is_one h m f =
@@ -140,15 +137,15 @@ good-published s clock given message is_one h m f =
     (publishing-streams s.progress.state (passed (is_publishing s.progress.state) c.0)) m f
 
 -- a picture on the active stream
-pub one-picture : (s : ClientSession) (x : StreamNumber) (m : Message) → s.progress.active ≡ active.Some x → m.stream ≡ x → Carries s true (m ∷ [])
-one-picture s x m e q n i t = (refl, ap active_number e ∙ ap (λ y. some y.0) (sym (ap (λ y. y.stream) (Memᴰ.eq_of_singleton i) ∙ q)))
+pub one-picture : (s : ClientSession) (x : StreamNumber) (m : Message) → s.progress.active ≡ Some x → m.stream ≡ x → Carries s true (m ∷ [])
+one-picture s x m e q n i t = (refl, ap active_number e ∙ ap (λ y. Some y.0) (sym (ap (λ y. y.stream) (Memᴰ.eq_of_singleton i) ∙ q)))
 
 -- ---- byte counts
 
-good-counted-by : (s : ClientSession) (clock : RtmpTimestamp) (n : ℕ) (w : PeerWindow) → Good s (publishing false) (counted_by s clock n w)
+good-counted-by : (s : ClientSession) (clock : RtmpTimestamp) (n : ℕ) (w : Option ℕ) → Good s (publishing false) (counted_by s clock n w)
 unfolding sent_by in_turn no_picture
-good-counted-by s clock n window.None = silent s _ _ refl refl refl
-good-counted-by s clock n (window.Some w) =
+good-counted-by s clock n None = silent s _ _ refl refl refl
+good-counted-by s clock n (Some w) =
     by_cases (leb w (s.link.pending + n)) (λ b. rw b (silent s _ _ refl refl refl)) (λ b. rw b (silent s _ _ refl refl refl))
 
 pub good-count : (s : ClientSession) (clock : RtmpTimestamp) (n : ℕ) → Good s (publishing false) (count s clock n)

@@ -6,14 +6,15 @@ use native.Mathlib.Nat.{add-mod-mod, mod-add-mod}
 use mathlib.Core.Path.{◌≡◌, refl, sym, ap, ◌∙◌}
 use mathlib.Core.Bool.{Bool, true, false, cond, not, ◌&&◌, ◌||◌}
 use mathlib.Core.List.{List, [], ◌∷◌}
+use Rattle.std.specs.Prelude.{Result, Ok, Err}
 use Rattle.messages.specs.declared.ids.RtmpTimestamp.{RtmpTimestamp}
 use Rattle.session.specs.Calls.{Call}
 use Rattle.session.specs.Record.{fresh}
 use Rattle.session.specs.Step.{step}
+use Rattle.session.specs.declared.errors.ClientSessionError.{ClientSessionError}
 use Rattle.session.specs.declared.config.ClientSessionConfig.{ClientSessionConfig}
 use Rattle.session.specs.declared.record.ClientSession.{ClientSession}
 use Rattle.session.specs.declared.result.Outcome.{Outcome}
-use Rattle.session.specs.declared.result.Outcome.TheVariants.{Refused, Nothing, One, Two, Accepted, Pinged}
 use Rattle.session_laws.specs.Acknowledged.{sets_window, counts, since, is_set}
 use Rattle.session_laws.specs.Refusals.{is_refused}
 use Rattle.session_laws.specs.Lines.{Turn}
@@ -29,14 +30,10 @@ use Rattle.journal.proofs.StepLaws.{line_for, Sends}
 
 -- ---- lines that were not turned away
 
-passed_is : (o : Outcome) → is_refused o ≡ not (passed (away_by o))
+passed_is : (o : Result Outcome ClientSessionError) → is_refused o ≡ not (passed (away_by o))
 unfolding away_by
-passed_is (Refused e) = refl
-passed_is Nothing = refl
-passed_is (One a) = refl
-passed_is (Two a b) = refl
-passed_is (Accepted a b) = refl
-passed_is (Pinged a t) = refl
+passed_is (Err e) = refl
+passed_is (Ok o) = refl
 
 -- ---- numbers
 

@@ -6,10 +6,11 @@ use mathlib.Core.Logic.{◌⊎◌, inl, inr}
 use mathlib.Core.Bool.{Bool, true, false, cond, not, ◌&&◌, ◌||◌, true≢false}
 use mathlib.Core.List.Memᴰ
 use mathlib.Core.List.{List, [], ◌∷◌, Memᴰ}
-use mathlib.Core.Option.{Option, none, some}
 use lib.Dec.{eqb}
 use borrow.Author.Tests.{eq-eqb}
-use Rattle.requests.specs.Places.{Request, lookup}
+use Rattle.std.specs.Prelude.{Option, Some, None}
+use Rattle.requests.specs.Places.{lookup}
+use Rattle.requests.specs.declared.place.Request.{Request}
 use Rattle.requests.specs.declared.outstanding_transaction.OutstandingTransaction.{OutstandingTransaction}
 use Rattle.requests.proofs.BoolLaws.{and_left, and_right}
 use Rattle.session.specs.Calls.{Call, Message}
@@ -25,8 +26,8 @@ use Rattle.journal.proofs.RuleLaws.{stage_after, active_after}
 -- ---- the session after a line that says w
 
 abbrev pub kind_of : Option Request → Option OutstandingTransaction
-kind_of none = none
-kind_of (some q) = some q.kind
+kind_of None = None
+kind_of (Some q) = Some q.kind
 
 -- what is open in the record under a number
 abbrev pub opens : ClientSession → ℕ → Option OutstandingTransaction
@@ -41,7 +42,7 @@ pub record Moves (s : ClientSession) (w : Said) (after : ClientSession) : Type 0
 
 -- a picture among the messages is a picture call's, on the active stream
 abbrev pub Carries : ClientSession → Bool → List Message → Type 0
-Carries s is_one ms = (m : Message) → Memᴰ m ms → m.type_id ≡ 9 → (is_one ≡ true) × (active_number s.progress.active ≡ some m.stream.0)
+Carries s is_one ms = (m : Message) → Memᴰ m ms → m.type_id ≡ 9 → (is_one ≡ true) × (active_number s.progress.active ≡ Some m.stream.0)
 
 unfoldable pub no_picture : List Message → Bool
 no_picture [] = true
@@ -53,8 +54,8 @@ carries-none s is_one [] h m i e = absurd (Memᴰ.not-nil i)
 carries-none s is_one (x ∷ ms) h m i e =
     go (Memᴰ.cases_cons i) (carries-none s is_one ms (and_right (not (eqb x.type_id 9)) (no_picture ms) h) m)
   where
-    go : (m ≡ x) ⊎ Memᴰ m ms → (Memᴰ m ms → m.type_id ≡ 9 → (is_one ≡ true) × (active_number s.progress.active ≡ some m.stream.0))
-        → (is_one ≡ true) × (active_number s.progress.active ≡ some m.stream.0)
+    go : (m ≡ x) ⊎ Memᴰ m ms → (Memᴰ m ms → m.type_id ≡ 9 → (is_one ≡ true) × (active_number s.progress.active ≡ Some m.stream.0))
+        → (is_one ≡ true) × (active_number s.progress.active ≡ Some m.stream.0)
     go (inl q) f =
         let t : eqb x.type_id 9 ≡ true = eq-eqb _ _ (ap (λ y. y.type_id) (sym q) ∙ e) in
         let n : not (eqb x.type_id 9) ≡ true = and_left (not (eqb x.type_id 9)) (no_picture ms) h in
@@ -88,7 +89,7 @@ mild k = not (closing k) && spared k
 
 -- a request is known to send the number that is due
 pub record Goes (s : ClientSession) (v : View) (ms : List Message) (after : ClientSession) : Type 0 where
-  pub moves : (v.asking ≡ 1 → number_sent ms ≡ some s.requests.next) → Moves s (v.well ms) after
+  pub moves : (v.asking ≡ 1 → number_sent ms ≡ Some s.requests.next) → Moves s (v.well ms) after
   pub carries : Carries s v.pictures ms
 
 pub record Closes (s : ClientSession) (v : View) (k : ℕ) (after : ClientSession) : Type 0 where

@@ -4,10 +4,10 @@ use Prim.Native.Nat.{ℕ}
 use mathlib.Core.Path.{◌≡◌, refl, ap, ◌∙◌}
 use mathlib.Core.Bool.{Bool, true, false, cond}
 use mathlib.Core.List.{List, [], ◌∷◌}
-use mathlib.Core.Option.{Option, none, some}
 use lib.Dec.{eqb, ltb}
 use lib.ListN.{drop}
 use borrow.Author.Tests.{eqb-true}
+use Rattle.std.specs.Prelude.{Option, Some, None}
 use Rattle.numbers.specs.Numbers.{held}
 use Rattle.octets.specs.Parse.{place_of}
 use Rattle.messages.specs.Incoming.{Incoming, malformed, set_chunk_size, abort, acknowledgement, window_size, peer_bandwidth, user_control, command, values, audio, video, unknown}
@@ -27,7 +27,8 @@ use Rattle.messages.specs.declared.rtmp_message.DataMessage.TheVariants as data-
 use Rattle.messages.specs.declared.rtmp_message.UserControlEvent.{UserControlEvent}
 use Rattle.messages.specs.declared.rtmp_message.UserControlEvent.TheVariants.{StreamBegin, StreamEof, StreamDry, SetBufferLength, StreamIsRecorded, PingRequest, PingResponse}
 use Rattle.bodies.specs.Sent.{command_in}
-use Rattle.requests.specs.Places.{Request, lookup}
+use Rattle.requests.specs.Places.{lookup}
+use Rattle.requests.specs.declared.place.Request.{Request}
 use Rattle.requests.specs.Table.{closed}
 use Rattle.requests.specs.declared.outstanding_transaction.OutstandingTransaction.{OutstandingTransaction}
 use Rattle.requests.specs.declared.outstanding_transaction.OutstandingTransaction.TheVariants.{ConnectionRequested, CreateStream}
@@ -38,7 +39,7 @@ use Rattle.requests.proofs.BoolLaws.{by_cases}
 use Rattle.requests.proofs.TableLaws.{closed-open}
 use Rattle.session.specs.Outcomes.{in_turn, sent_by}
 use Rattle.session.specs.Plan.{is_play, unless_stage}
-use Rattle.session.specs.Message.{is_play_requested, is_publish_requested, is_active, after_closing, grant_sends, granted, result_of, error_of, result_to, error_to, noticed, command_of, if_active, media_in, data_in, control_in, on_message}
+use Rattle.session.specs.Message.{is_play_requested, is_publish_requested, is_active, after_closing, stream_number, grant_sends, granted, result_of, error_of, result_to, error_to, noticed, command_of, if_active, media_in, data_in, control_in, on_message}
 use Rattle.session.specs.Message as session
 use Rattle.session.specs.declared.events.ClientSessionEvent.{ClientSessionEvent}
 use Rattle.session.specs.declared.errors.ClientSessionError.TheVariants.{InvalidMaxChunkSize}
@@ -50,13 +51,13 @@ use Rattle.journal.proofs.Good.{kind_of, opens, Moves, no_picture, carries-none,
 
 -- ---- replies
 
-kind-closed : (b : Bool) (o : Option Request) → kind_of (cond b none o) ≡ cond b none (kind_of o)
+kind-closed : (b : Bool) (o : Option Request) → kind_of (cond b None o) ≡ cond b None (kind_of o)
 kind-closed true o = refl
 kind-closed false o = refl
 
 module _ (s : ClientSession) (clock : RtmpTimestamp) (b : List ℕ) where
   -- the request under n is closed
-  open-closed : (n m : ℕ) → kind_of (lookup m (closed s.requests n).places) ≡ cond (eqb n m) none (opens s m)
+  open-closed : (n m : ℕ) → kind_of (lookup m (closed s.requests n).places) ≡ cond (eqb n m) None (opens s m)
   open-closed n m = ap kind_of (closed-open s.requests n m) ∙ kind-closed (eqb n m) (lookup m s.requests.places)
 
   closes : (n : ℕ) → Moves s (failed n) (after_closing s clock b n)
@@ -64,7 +65,7 @@ module _ (s : ClientSession) (clock : RtmpTimestamp) (b : List ℕ) where
   closes n = record { stage_moves = refl; active_moves = refl; open_moves = open-closed n }
 
   -- a reply to no open request
-  not_open : (n m : ℕ) → lookup n s.requests.places ≡ none → opens s m ≡ cond (eqb n m) none (opens s m)
+  not_open : (n m : ℕ) → lookup n s.requests.places ≡ None → opens s m ≡ cond (eqb n m) None (opens s m)
   not_open n m e = by_cases (eqb n m) (λ q. rw q (rw (← eqb-true n m q, e))) (λ q. rw q)
 
   requested-is : (p : TransactionPurpose) → session.requested_stage p ≡ requested_stage p
@@ -76,10 +77,10 @@ module _ (s : ClientSession) (clock : RtmpTimestamp) (b : List ℕ) where
   grant-sends PlayRequest key x = refl
   grant-sends (PublishRequest t) key x = refl
 
-  good-granted : (n : ℕ) (p : TransactionPurpose) (key : Text) (a : Argument) → opens s n ≡ some (CreateStream p)
-      → Good s (heard (resulted n (grant_number a))) (granted s clock b n p key a)
+  good-granted : (n : ℕ) (p : TransactionPurpose) (key : Text) (a : Option Argument) → opens s n ≡ Some (CreateStream p)
+      → Good s (heard (resulted n (grant_number a))) (granted s clock b n p key (stream_number a))
   unfolding stage_after active_after open_by
-  good-granted n p key (argument.Number x) e =
+  good-granted n p key (Some (argument.Number x)) e =
       record {
         moves =
             λ i.
@@ -90,11 +91,11 @@ module _ (s : ClientSession) (clock : RtmpTimestamp) (b : List ℕ) where
             };
         carries = carries-none s false _ (grant-sends p key (record { 0 = held x }));
       }
-  good-granted n p key argument.Absent e = record { by = refl; moves = closes n }
-  good-granted n p key argument.Object e = record { by = refl; moves = closes n }
-  good-granted n p key argument.Other e = record { by = refl; moves = closes n }
+  good-granted n p key None e = record { by = refl; moves = closes n }
+  good-granted n p key (Some argument.Object) e = record { by = refl; moves = closes n }
+  good-granted n p key (Some argument.Other) e = record { by = refl; moves = closes n }
 
-  good-result-of : (c : Command) (n : ℕ) (k : OutstandingTransaction) (t : Text) → opens s n ≡ some k
+  good-result-of : (c : Command) (n : ℕ) (k : OutstandingTransaction) (t : Text) → opens s n ≡ Some k
       → Good s (heard (resulted n (grant_number c.first))) (result_of s clock b c n k t)
   unfolding stage_after active_after open_by sent_by in_turn no_picture
   good-result-of c n ConnectionRequested t e =
@@ -118,44 +119,44 @@ module _ (s : ClientSession) (clock : RtmpTimestamp) (b : List ℕ) where
   good-result : (c : Command) (n : ℕ) (o : Option Request) → lookup n s.requests.places ≡ o
       → Good s (heard (resulted n (grant_number c.first))) (result_to s clock b c n o)
   unfolding stage_after active_after open_by sent_by in_turn no_picture
-  good-result c n none e =
+  good-result c n None e =
       record {
         moves = λ i. record { stage_moves = rw e; active_moves = rw e; open_moves = λ m. not_open n m e };
         carries = carries-none s false _ refl;
       }
-  good-result c n (some q) e = good-result-of c n q.kind q.text (ap kind_of e)
+  good-result c n (Some q) e = good-result-of c n q.kind q.text (ap kind_of e)
 
   good_error : (c : Command) (n : ℕ) (o : Option Request) → lookup n s.requests.places ≡ o
       → Good s (heard (failed n)) (error_to s clock b c n o)
   unfolding stage_after active_after open_by sent_by in_turn no_picture
-  good_error c n none e =
+  good_error c n None e =
       record {
         moves = λ i. record { stage_moves = refl; active_moves = refl; open_moves = λ m. not_open n m e };
         carries = carries-none s false _ refl;
       }
-  good_error c n (some q) e = good_error_of c n q.kind
+  good_error c n (Some q) e = good_error_of c n q.kind
 
 -- ---- notices
 
 module _ (s : ClientSession) (clock : RtmpTimestamp) (b : List ℕ) where
-  good-noticed : (c : OnStatus) → Good s (heard (notice_said c)) (noticed s clock b c)
+  good-noticed : (c : Option OnStatus) → Good s (heard (notice_said c)) (noticed s clock b c)
   unfolding stage_after active_after open_by sent_by in_turn no_picture
-  good-noticed status.PlayStart =
+  good-noticed (Some status.PlayStart) =
       good_order s (heard started_play) (unless_stage is_play_requested s ∷ []) _ refl λ e.
       let g = is-play-requested s.progress.state (passed _ e.0) in
       record {
         moves = λ i. record { stage_moves = rw g; active_moves = refl; open_moves = λ m. refl };
         carries = carries-none s false _ refl;
       }
-  good-noticed status.PublishStart =
+  good-noticed (Some status.PublishStart) =
       good_order s (heard started_publish) (unless_stage is_publish_requested s ∷ []) _ refl λ e.
       let g = is-publish-requested s.progress.state (passed _ e.0) in
       record {
         moves = λ i. record { stage_moves = rw g; active_moves = refl; open_moves = λ m. refl };
         carries = carries-none s false _ refl;
       }
-  good-noticed (status.Other start len) = silent s _ _ refl refl refl
-  good-noticed status.Invalid = refl
+  good-noticed (Some (status.Other code)) = silent s _ _ refl refl refl
+  good-noticed None = refl
 
   good-command : (c : Command) (n : CommandName) → Good s (heard (command_said b c n)) (command_of s clock b c n)
   unfolding sent_by in_turn no_picture

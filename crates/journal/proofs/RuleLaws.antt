@@ -7,7 +7,7 @@ use mathlib.Core.Path.{◌≡◌, refl, sym}
 use mathlib.Core.Logic.{◌≢◌}
 use mathlib.Core.Bool.{Bool, true, false, cond, ◌||◌}
 use mathlib.Core.List.{◌∷◌}
-use mathlib.Core.Option.{Option, none, some}
+use Rattle.std.specs.Prelude.{Option, Some, None}
 use Rattle.requests.specs.declared.outstanding_transaction.OutstandingTransaction.{OutstandingTransaction}
 use Rattle.requests.specs.declared.outstanding_transaction.OutstandingTransaction.TheVariants.{ConnectionRequested, CreateStream}
 use Rattle.requests.specs.declared.outstanding_transaction.TransactionPurpose.{TransactionPurpose}
@@ -36,16 +36,16 @@ start_publish PublishRequested = Publishing
 start_publish Publishing = Publishing
 
 abbrev pub stage_marked : Option Mark → ClientState → ClientState
-stage_marked none g = g
-stage_marked (some accepted) g = Connected
-stage_marked (some (grant p x)) g = requested_stage p
-stage_marked (some stopped) g = Connected
+stage_marked None g = g
+stage_marked (Some accepted) g = Connected
+stage_marked (Some (grant p x)) g = requested_stage p
+stage_marked (Some stopped) g = Connected
 
 abbrev pub active_marked : Option Mark → Option ℕ → Option ℕ
-active_marked none a = a
-active_marked (some accepted) a = a
-active_marked (some (grant p x)) a = some x
-active_marked (some stopped) a = none
+active_marked None a = a
+active_marked (Some accepted) a = a
+active_marked (Some (grant p x)) a = Some x
+active_marked (Some stopped) a = None
 
 unfoldable pub stage_after : Said → (ℕ → Option OutstandingTransaction) → ClientState → ClientState
 stage_after nothing was g = g
@@ -63,7 +63,7 @@ active_after (resulted n x) was a = active_marked (mark_reply x (was n)) a
 active_after (failed n) was a = a
 active_after started_play was a = a
 active_after started_publish was a = a
-active_after deleted was a = none
+active_after deleted was a = None
 
 -- ---- the stage
 
@@ -73,10 +73,10 @@ grant_stage p b = cond b (running_stage p) (requested_stage p)
 -- a line that is no mark: f is what it does to the stage
 no-mark : (f : ClientState → ClientState) → f Disconnected ≡ Disconnected → f Connected ≡ Connected → (l : Line)
     → ((p : TransactionPurpose) (b : Bool) → grant_stage p (is_own p (said l) || b) ≡ f (grant_stage p b))
-    → (r : Option (Found Mark)) → stage_of (found_or l none r) ≡ f (stage_of r)
+    → (r : Option (Found Mark)) → stage_of (found_or l None r) ≡ f (stage_of r)
 unfolding stage_of found_or stage_by any_since
-no-mark f d c l g none = sym d
-no-mark f d c l g (some r) = go r.what
+no-mark f d c l g None = sym d
+no-mark f d c l g (Some r) = go r.what
   where
     go : (m : Mark) → stage_by m (l ∷ r.since) ≡ f (stage_by m r.since)
     go accepted = sym c
@@ -99,21 +99,21 @@ start-publish (PublishRequest t) false = refl
 stage-marked : (l : Line) → ((p : TransactionPurpose) → is_own p (said l) ≡ false) → (x : Option Mark) (r : Option (Found Mark))
     → stage_of (found_or l x r) ≡ stage_marked x (stage_of r)
 unfolding stage_of found_or stage_by any_since
-stage-marked l q none r = no-mark (λ g. g) refl refl l (λ p b. rw (q p)) r
-stage-marked l q (some accepted) r = refl
-stage-marked l q (some (grant p x)) r = refl
-stage-marked l q (some stopped) r = refl
+stage-marked l q None r = no-mark (λ g. g) refl refl l (λ p b. rw (q p)) r
+stage-marked l q (Some accepted) r = refl
+stage-marked l q (Some (grant p x)) r = refl
+stage-marked l q (Some stopped) r = refl
 
 stage-said : (l : Line) (j : Journal) (w : Said) → said l ≡ w → (r : Option (Found Mark))
     → stage_of (found_or l (mark_by w j) r) ≡ stage_after w (rule_open j) (stage_of r)
 unfolding mark_by stage_after
-stage-said l j nothing e r = stage-marked l (λ p. rw e) none r
-stage-said l j (asked n k) e r = stage-marked l (λ p. rw e) none r
+stage-said l j nothing e r = stage-marked l (λ p. rw e) None r
+stage-said l j (asked n k) e r = stage-marked l (λ p. rw e) None r
 stage-said l j (resulted n x) e r = stage-marked l (λ p. rw e) (mark_reply x (rule_open j n)) r
-stage-said l j (failed n) e r = stage-marked l (λ p. rw e) none r
+stage-said l j (failed n) e r = stage-marked l (λ p. rw e) None r
 stage-said l j started_play e r = no-mark start_play refl refl l (λ p b. rw e (start-play p b)) r
 stage-said l j started_publish e r = no-mark start_publish refl refl l (λ p b. rw e (start-publish p b)) r
-stage-said l j deleted e r = stage-marked l (λ p. rw e) (some stopped) r
+stage-said l j deleted e r = stage-marked l (λ p. rw e) (Some stopped) r
 
 pub stage-more : (l : Line) (j : Journal) → rule_stage (l ∷ j) ≡ stage_after (said l) (rule_open j) (rule_stage j)
 unfolding rule_stage latest mark
@@ -122,39 +122,39 @@ stage-more l j = stage-said l j (said l) refl (latest mark j)
 -- ---- the active stream
 
 -- a line that is no stop
-active-marked : (l : Line) → is_deleted (said l) ≡ false → (x : Option Mark) → x ≢ some stopped → (r : Option (Found ℕ))
+active-marked : (l : Line) → is_deleted (said l) ≡ false → (x : Option Mark) → x ≢ Some stopped → (r : Option (Found ℕ))
     → active_of (found_or l (grant_in x) r) ≡ active_marked x (active_of r)
 unfolding active_of found_or any_since
-active-marked l q none h none = refl
-active-marked l q none h (some r) = rw q
-active-marked l q (some accepted) h none = refl
-active-marked l q (some accepted) h (some r) = rw q
-active-marked l q (some (grant p x)) h r = refl
-active-marked l q (some stopped) h r = absurd (h refl)
+active-marked l q None h None = refl
+active-marked l q None h (Some r) = rw q
+active-marked l q (Some accepted) h None = refl
+active-marked l q (Some accepted) h (Some r) = rw q
+active-marked l q (Some (grant p x)) h r = refl
+active-marked l q (Some stopped) h r = absurd (h refl)
 
-reply-marked : (x : Option ℕ) (o : Option OutstandingTransaction) → mark_reply x o ≢ some stopped
-reply-marked x none = λ e. let z : ◌≡◌ {A = ℕ} 0 1 = cc in omega arith
-reply-marked x (some ConnectionRequested) = λ e. let z : ◌≡◌ {A = ℕ} 0 1 = cc in omega arith
-reply-marked none (some (CreateStream p)) = λ e. let z : ◌≡◌ {A = ℕ} 0 1 = cc in omega arith
-reply-marked (some x) (some (CreateStream p)) = λ e. let z : ◌≡◌ {A = ℕ} 0 1 = cc in omega arith
+reply-marked : (x : Option ℕ) (o : Option OutstandingTransaction) → mark_reply x o ≢ Some stopped
+reply-marked x None = λ e. let z : ◌≡◌ {A = ℕ} 0 1 = cc in omega arith
+reply-marked x (Some ConnectionRequested) = λ e. let z : ◌≡◌ {A = ℕ} 0 1 = cc in omega arith
+reply-marked None (Some (CreateStream p)) = λ e. let z : ◌≡◌ {A = ℕ} 0 1 = cc in omega arith
+reply-marked (Some x) (Some (CreateStream p)) = λ e. let z : ◌≡◌ {A = ℕ} 0 1 = cc in omega arith
 
-no_stop : none ≢ some stopped
+no_stop : None ≢ Some stopped
 no_stop e = let z : ◌≡◌ {A = ℕ} 0 1 = cc in omega arith
 
-active-deleted : (l : Line) → is_deleted (said l) ≡ true → (r : Option (Found ℕ)) → active_of (found_or l none r) ≡ none
+active-deleted : (l : Line) → is_deleted (said l) ≡ true → (r : Option (Found ℕ)) → active_of (found_or l None r) ≡ None
 unfolding active_of found_or any_since
-active-deleted l q none = refl
-active-deleted l q (some r) = rw q
+active-deleted l q None = refl
+active-deleted l q (Some r) = rw q
 
 active-said : (l : Line) (j : Journal) (w : Said) → said l ≡ w → (r : Option (Found ℕ))
     → active_of (found_or l (grant_in (mark_by w j)) r) ≡ active_after w (rule_open j) (active_of r)
 unfolding mark_by active_after
-active-said l j nothing e r = active-marked l (rw e) none no_stop r
-active-said l j (asked n k) e r = active-marked l (rw e) none no_stop r
+active-said l j nothing e r = active-marked l (rw e) None no_stop r
+active-said l j (asked n k) e r = active-marked l (rw e) None no_stop r
 active-said l j (resulted n x) e r = active-marked l (rw e) (mark_reply x (rule_open j n)) (reply-marked x (rule_open j n)) r
-active-said l j (failed n) e r = active-marked l (rw e) none no_stop r
-active-said l j started_play e r = active-marked l (rw e) none no_stop r
-active-said l j started_publish e r = active-marked l (rw e) none no_stop r
+active-said l j (failed n) e r = active-marked l (rw e) None no_stop r
+active-said l j started_play e r = active-marked l (rw e) None no_stop r
+active-said l j started_publish e r = active-marked l (rw e) None no_stop r
 active-said l j deleted e r = active-deleted l (rw e) r
 
 pub active-more : (l : Line) (j : Journal) → rule_active (l ∷ j) ≡ active_after (said l) (rule_open j) (rule_active j)
@@ -162,16 +162,16 @@ unfolding rule_active latest grant_at mark
 active-more l j = active-said l j (said l) refl (latest grant_at j)
 
 -- an active stream is the latest grant's
-active-grant : (r : Option (Found ℕ)) (x : ℕ) → active_of r ≡ some x → number_found r ≡ some x
+active-grant : (r : Option (Found ℕ)) (x : ℕ) → active_of r ≡ Some x → number_found r ≡ Some x
 unfolding active_of
-active-grant none x h = h
-active-grant (some r) x h = go (any_since is_deleted r.since) h
+active-grant None x h = h
+active-grant (Some r) x h = go (any_since is_deleted r.since) h
   where
-    go : (b : Bool) → cond b none (some r.what) ≡ some x → some r.what ≡ some x
+    go : (b : Bool) → cond b None (Some r.what) ≡ Some x → Some r.what ≡ Some x
     go true e = let z : ◌≡◌ {A = ℕ} 0 1 = cc in absurd (omega arith)
     go false e = e
 
-pub active-latest : (j : Journal) (x : ℕ) → rule_active j ≡ some x → latest_grant j ≡ some x
+pub active-latest : (j : Journal) (x : ℕ) → rule_active j ≡ Some x → latest_grant j ≡ Some x
 unfolding rule_active latest_grant
 active-latest j x h = active-grant (latest grant_at j) x h
 

@@ -6,14 +6,15 @@ use mathlib.Core.Bool.{cond}
 use mathlib.Core.List.{List, [], ◌∷◌, map, Memᴰ}
 use lib.Ieee.{of_bits, to_bits, of_int, round, to_unsigned}
 use lib.ListN.{set, replicate}
+use Rattle.std.specs.Prelude.{Some}
 use Rattle.octets.specs.Parse.{field}
 use Rattle.octets.specs.BigEndian.{uint, digits}
 use Rattle.octets.specs.Compare.{same}
 use Rattle.octets.specs.Utf8.{any_row, octets, utf8}
-use Rattle.amf0.specs.Decode.{marker_of, text_of, name_of, properties, values, content, value, to_end}
+use Rattle.amf0.specs.Decode.{marker_of, marker, text_of, name_of, properties, values, content, value, to_end}
 use Rattle.amf0.specs.Encode.{text_bytes, encode, encode_props, encode_values}
 use Rattle.amf0.specs.Lookup.{last_of, properties_of, properties_at}
-use Rattle.amf0.specs.Places.{text_kind, kind_after, kind_at, text_found, text_of_property, stretch}
+use Rattle.amf0.specs.Places.{text_place, kind_after, kind_at, text_found, text_of_property, stretch}
 use Rattle.messages.specs.Incoming.{event_of, user_control_of, text_only, number_only, command_of, after_zero, decode}
 use Rattle.messages.specs.Notice.{code_is, code_of}
 use Rattle.messages.specs.Places.{name_of as command_name, argument_of, first_of, placed}
@@ -26,7 +27,6 @@ use Rattle.requests.specs.Texts.{fits, text_of as stored_text, text_sound, store
 use Rattle.requests.specs.declared.outstanding_transaction.OutstandingTransaction.{OutstandingTransaction}
 use Rattle.requests.specs.declared.outstanding_transaction.OutstandingTransaction.TheVariants.{ConnectionRequested, CreateStream}
 use Rattle.requests.specs.declared.outstanding_transaction.TransactionPurpose.TheVariants.{PlayRequest, PublishRequest}
-use Rattle.requests.specs.declared.place.Slot.TheVariants.{Open}
 use Rattle.requests.specs.declared.table.Requests.{Requests}
 use Rattle.session.specs.Calls.{Call, connect, play, publish, stop_playback, stop_publishing, ping, picture, sound, metadata, bytes, message, plain, sends, one}
 use Rattle.session.specs.Outcomes.{in_turn, sent_by, bodies, outcome_of}
@@ -62,7 +62,7 @@ ran is = run-trace start is (opened default_config (open_of default_config) refl
 module _ (s : ClientSession) (clock : RtmpTimestamp) where
   abbrev asked_first : Requests → OutstandingTransaction → List ℕ → Requests
   asked_first r k t =
-      record { next = r.next + 1; places = set r.places (first_free r.places) (record { slot = Open (record { 0 = r.next }) k; text = stored t }) }
+      record { next = r.next + 1; places = set r.places (first_free r.places) (record { request = Some (record { 0 = r.next }, k); text = stored t }) }
 
   asked-first : (r : Requests) (k : OutstandingTransaction) (t : List ℕ) → asked r k t ≡ asked_first r k t
   unfolding asked put
@@ -124,7 +124,7 @@ run-first r (i ∷ is) =
 -- ---- the table
 
 computed : map (λ r. end_of (run_first start r.calls)) rows ≡ map (λ r. r.ends) rows
-unfolding field uint digits same any_row octets utf8 marker_of text_of name_of properties values content value to_end text_bytes encode encode_props encode_values last_of properties_of properties_at text_kind kind_after kind_at text_found text_of_property stretch event_of user_control_of text_only number_only command_of after_zero decode code_is code_of command_name argument_of first_of placed connect_body create_stream_body delete_stream_body play_body publish_body control_body command_in requested first_number deletes open_count lookup without first_free has_number place_sound places_sound none requests_sound closed fits stored_text text_sound stored in_turn sent_by bodies outcome_of default_config texts_sound is_session fresh open_of in_order stop published ping_plan count on_message plan fitted away_by results_of messages_in line_of number_sent delete_sent message_said said_well said open_by rule_open mark_by mark found_or latest any_since stage_by stage_of rule_stage grant_at active_of rule_active run_first of_bits to_bits of_int round to_unsigned
+unfolding field uint digits same any_row octets utf8 marker_of marker text_of name_of properties values content value to_end text_bytes encode encode_props encode_values last_of properties_of properties_at text_place kind_after kind_at text_found text_of_property stretch event_of user_control_of text_only number_only command_of after_zero decode code_is code_of command_name argument_of first_of placed connect_body create_stream_body delete_stream_body play_body publish_body control_body command_in requested first_number deletes open_count lookup without first_free has_number place_sound places_sound none requests_sound closed fits stored_text text_sound stored in_turn sent_by bodies outcome_of default_config texts_sound is_session fresh open_of in_order stop published ping_plan count on_message plan fitted away_by results_of messages_in line_of number_sent delete_sent message_said said_well said open_by rule_open mark_by mark found_or latest any_since stage_by stage_of rule_stage grant_at active_of rule_active run_first of_bits to_bits of_int round to_unsigned
 computed = refl
 
 at : (rs : List Row) (r : Row) → map (λ r. end_of (run_first start r.calls)) rs ≡ map (λ r. r.ends) rs → Memᴰ r rs → end_of (run start r.calls) ≡ r.ends

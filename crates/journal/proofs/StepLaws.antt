@@ -2,28 +2,25 @@
 -- Assumes nothing.
 use Prim.Native.Nat.{ℕ}
 use native.Mathlib.Omega.{arith}
-use mathlib.Core.Path.{◌≡◌, refl, sym, ap, ap₂, ◌∙◌, subst}
+use mathlib.Core.Path.{◌≡◌, refl, sym, ap, ◌∙◌, subst}
 use mathlib.Core.Logic.{◌↔◌, ◌≢◌}
 use mathlib.Core.Bool.{Bool, true, false, cond, not, true≢false}
 use mathlib.Core.List.Memᴰ
 use mathlib.Core.List.{List, []}
-use mathlib.Core.Option.{Option, none, some}
 use lib.Dec.{eqb, ltb}
 use lib.ListN.{length}
 use borrow.Author.Tests.{eqb-true, eq-eqb, not-true}
+use Rattle.std.specs.Prelude.{Ok, Option, Some, None}
 use Rattle.messages.specs.declared.ids.RtmpTimestamp.{RtmpTimestamp}
 use Rattle.messages.specs.declared.ids.StreamNumber.{StreamNumber}
 use Rattle.requests.proofs.BoolLaws.{by_cases, and_left, and_right}
-use Rattle.session.specs.Calls.{Call, connect, play, publish, stop_playback, stop_publishing, ping, picture, sound, metadata, bytes, message, Message, Results, one, two, accepts, pinged}
-use Rattle.session.specs.Calls as calls
+use Rattle.session.specs.Calls.{Call, connect, play, publish, stop_playback, stop_publishing, ping, picture, sound, metadata, bytes, message, Message, Results}
 use Rattle.session.specs.Numbers.{refusal_number}
 use Rattle.session.specs.Outcomes.{in_turn, sent_by, output, written, outcome_of}
 use Rattle.session.specs.Plan.{Plan, refuse, close, go, in_order, is_publishing, if_large, published_on, published}
 use Rattle.session.specs.Step.{plan, Stepped, away, fitted, step}
 use Rattle.session.specs.declared.errors.ClientSessionError.{ClientSessionError}
 use Rattle.session.specs.declared.errors.ClientSessionError.TheVariants.{SessionInInvalidState, Space}
-use Rattle.session.specs.declared.record.ActiveStream.{ActiveStream}
-use Rattle.session.specs.declared.record.ActiveStream.TheVariants as active
 use Rattle.session.specs.declared.record.ClientSession.{ClientSession}
 use Rattle.session.specs.declared.state.ClientState.{ClientState}
 use Rattle.session.specs.declared.state.ClientState.TheVariants.{Publishing}
@@ -43,8 +40,8 @@ use Rattle.journal.proofs.PlanGood.{good}
 
 -- neither by 3 nor by 13
 abbrev pub spared_by : Option ℕ → Bool
-spared_by none = true
-spared_by (some k) = spared k
+spared_by None = true
+spared_by (Some k) = spared k
 
 pub record Steps (s : ClientSession) (l : Line) (after : ClientSession) : Type 0 where
   pub moves : Moves s (said l) after
@@ -56,26 +53,18 @@ line_for c r = line_of c r.outcome r.output
 
 -- a request line has the number that was due
 abbrev pub Sends : ClientSession → Line → Type 0
-Sends s l = gave l ≡ 1 → number_sent l.sent ≡ some s.requests.next
+Sends s l = gave l ≡ 1 → number_sent l.sent ≡ Some s.requests.next
 
 -- what a turned-away line says
 module _ (k : ℕ) (c : Call) where
-  counts-for-nothing : closing k ≡ false → said_by (some k) c [] ≡ nothing
+  counts-for-nothing : closing k ≡ false → said_by (Some k) c [] ≡ nothing
   counts-for-nothing h = ap (λ b. cond b (closes_only (said_well c [])) nothing) h
 
-  closes-only : closing k ≡ true → said_by (some k) c [] ≡ closes_only (said_well c [])
+  closes-only : closing k ≡ true → said_by (Some k) c [] ≡ closes_only (said_well c [])
   closes-only h = ap (λ b. cond b (closes_only (said_well c [])) nothing) h
 
 closing_spared : (k : ℕ) → closing k ≡ true → spared k ≡ true
 closing_spared k h = by_cases (eqb k 4) (λ e. rw (eqb-true k 4 e)) (λ e. let f : eqb k 5 ≡ true = rw e at h in rw (eqb-true k 5 f))
-
-none-away : (rs : Results) → away_by (outcome_of rs) ≡ none
-unfolding away_by outcome_of
-none-away calls.nothing = refl
-none-away (one a) = refl
-none-away (two a b) = refl
-none-away (accepts a b) = refl
-none-away (pinged a t) = refl
 
 module _ (s : ClientSession) (c : Call) (old : List ℕ) where
   -- a refusal that keeps the session
@@ -90,12 +79,12 @@ module _ (s : ClientSession) (c : Call) (old : List ℕ) where
         is_spared = and_right (not (closing k)) (spared k) m;
       }
 
-  line-done : (rs : Results) → line_of c (outcome_of rs) (written old rs) ≡ record { call = c; turned_away = none; sent = sent_by (in_turn rs) }
-  unfolding line_of
-  line-done rs = ap₂ (λ o ms. record { call = c; turned_away = o; sent = ms }) (none-away rs) (reads_back old rs)
+  line-done : (rs : Results) → line_of c (Ok (outcome_of rs)) (written old rs) ≡ record { call = c; turned_away = None; sent = sent_by (in_turn rs) }
+  unfolding line_of away_by
+  line-done rs = ap (λ ms. record { call = c; turned_away = None; sent = ms }) (reads_back old rs)
 
   done : (ms : List Message) (after : ClientSession) → Goes s (view_of c) ms after
-      → Sends s (record { call = c; turned_away = none; sent = ms }) → Steps s (record { call = c; turned_away = none; sent = ms }) after
+      → Sends s (record { call = c; turned_away = None; sent = ms }) → Steps s (record { call = c; turned_away = None; sent = ms }) after
   unfolding said
   done ms after g n = record { moves = g.moves n; carries = g.carries; is_spared = refl }
 
@@ -113,7 +102,7 @@ module _ (s : ClientSession) (c : Call) (old : List ℕ) where
       by_cases (ltb (length old) (length (output rs)))
       (λ q. rw q (turned Space refl))
       (λ q.
-      let m : Sends s (line_of c (outcome_of rs) (written old rs)) = rw q at n in
+      let m : Sends s (line_of c (Ok (outcome_of rs)) (written old rs)) = rw q at n in
       rw (q, line-done rs) (done (sent_by (in_turn rs)) after g (subst (Sends s) (line-done rs) m)))
 
   pub steps : (clock : RtmpTimestamp) → Sound s → Sends s (line_for c (step s clock c old))
@@ -132,30 +121,30 @@ NotTwo (refuse e) = eqb (refusal_number e) 2 ≡ false
 NotTwo (close e after) = eqb (refusal_number e) 2 ≡ false
 NotTwo (go rs after) = Unit {0}
 
-other_than-two : (k : ℕ) → eqb k 2 ≡ false → some k ≢ some 2
+other_than-two : (k : ℕ) → eqb k 2 ≡ false → Some k ≢ Some 2
 other_than-two k h e = let q : k ≡ 2 = cc in true≢false (sym (eq-eqb k 2 q) ∙ h)
 
-refused-two : (s : ClientSession) (old : List ℕ) (g : ClientState) → away_by (fitted s old (refuse (SessionInInvalidState g))).outcome ≡ some 2
+refused-two : (s : ClientSession) (old : List ℕ) (g : ClientState) → away_by (fitted s old (refuse (SessionInInvalidState g))).outcome ≡ Some 2
 unfolding fitted away_by
 refused-two s old g = refl
 
-on-stream-two : (s : ClientSession) (clock : RtmpTimestamp) (b : List ℕ) (f : StreamNumber → Message) (a : ActiveStream)
+on-stream-two : (s : ClientSession) (clock : RtmpTimestamp) (b : List ℕ) (f : StreamNumber → Message) (a : Option StreamNumber)
     → NotTwo (published_on s clock (if_large b) f a)
 unfolding in_order
-on-stream-two s clock b f active.None = refl
-on-stream-two s clock b f (active.Some x) = by_cases (ltb 16777215 (length b)) (λ q. rw q) (λ q. rw q tt)
+on-stream-two s clock b f None = refl
+on-stream-two s clock b f (Some x) = by_cases (ltb 16777215 (length b)) (λ q. rw q) (λ q. rw q tt)
 
 module _ (s : ClientSession) (old : List ℕ) where
-  fitted-two : (p : Plan) → NotTwo p → away_by (fitted s old p).outcome ≢ some 2
+  fitted-two : (p : Plan) → NotTwo p → away_by (fitted s old p).outcome ≢ Some 2
   unfolding fitted away_by
   fitted-two (refuse e) h = other_than-two (refusal_number e) h
   fitted-two (close e after) h = other_than-two (refusal_number e) h
   fitted-two (go rs after) h =
       by_cases (ltb (length old) (length (output rs))) (λ q. rw q (other_than-two 12 refl))
-      (λ q. rw (q, none-away rs) (λ e. let z : ◌≡◌ {A = ℕ} 0 1 = cc in omega arith))
+      (λ q. rw q (λ e. let z : ◌≡◌ {A = ℕ} 0 1 = cc in omega arith))
 
   published-two : (clock : RtmpTimestamp) (b : List ℕ) (f : StreamNumber → Message)
-      → (away_by (fitted s old (published s clock (if_large b) f)).outcome ≡ some 2) ↔ (s.progress.state ≢ Publishing)
+      → (away_by (fitted s old (published s clock (if_large b) f)).outcome ≡ Some 2) ↔ (s.progress.state ≢ Publishing)
   unfolding published in_order
   published-two clock b f =
       by_cases (is_publishing s.progress.state)
@@ -166,7 +155,7 @@ module _ (s : ClientSession) (old : List ℕ) where
       (λ q. rw q (λ e. not-publishing s.progress.state q, λ n. refused-two s old s.progress.state))
 
   plan-two : (clock : RtmpTimestamp) (c : Call) → is_picture c ≡ true
-      → (away_by (fitted s old (plan s clock c)).outcome ≡ some 2) ↔ (s.progress.state ≢ Publishing)
+      → (away_by (fitted s old (plan s clock c)).outcome ≡ Some 2) ↔ (s.progress.state ≢ Publishing)
   unfolding plan
   plan-two clock (picture b t d) h = published-two clock b _
   plan-two clock (connect app) h = absurd (true≢false (sym h))
@@ -181,6 +170,6 @@ module _ (s : ClientSession) (old : List ℕ) where
   plan-two clock (message k t x b) h = absurd (true≢false (sym h))
 
   pub step-two : (clock : RtmpTimestamp) (c : Call) → Sound s → is_picture c ≡ true
-      → ((line_for c (step s clock c old)).turned_away ≡ some 2) ↔ (s.progress.state ≢ Publishing)
+      → ((line_for c (step s clock c old)).turned_away ≡ Some 2) ↔ (s.progress.state ≢ Publishing)
   unfolding step line_of
   step-two clock c h i = rw h.session (plan-two clock c i)

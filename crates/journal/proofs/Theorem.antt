@@ -6,13 +6,13 @@ use mathlib.Core.Logic.{◌≢◌}
 use mathlib.Core.Bool.{true, false, true≢false}
 use mathlib.Core.List.Memᴰ
 use mathlib.Core.List.{List, [], ◌∷◌}
-use mathlib.Core.Option.{Option, none, some}
 use native.Mathlib.Omega.{arith}
+use Rattle.std.specs.Prelude.{Option, Some, None}
 use Rattle.messages.specs.declared.ids.RtmpTimestamp.{RtmpTimestamp}
-use Rattle.requests.specs.Places.{Request, lookup}
+use Rattle.requests.specs.Places.{lookup}
+use Rattle.requests.specs.declared.place.Request.{Request}
 use Rattle.requests.specs.Table.{none as no_requests}
 use Rattle.requests.specs.declared.outstanding_transaction.OutstandingTransaction.{OutstandingTransaction}
-use Rattle.requests.specs.declared.place.Slot.TheVariants as slot
 use Rattle.requests.proofs.BoolLaws.{by_cases}
 use Rattle.requests.proofs.PlaceLaws.{opened as opened_place, found_in, in-found}
 use Rattle.requests.proofs.TableLaws.{sound as sound-facts}
@@ -57,7 +57,7 @@ agrees-more s after l j a t h =
 
 -- ---- each line
 
-not_spared : (o : Option ℕ) (k : ℕ) → spared k ≡ false → spared_by o ≡ true → o ≢ some k
+not_spared : (o : Option ℕ) (k : ℕ) → spared k ≡ false → spared_by o ≡ true → o ≢ Some k
 not_spared o k h e q = true≢false (sym e ∙ ap spared_by q ∙ h)
 
 line-holds : (s : ClientSession) (clock : RtmpTimestamp) (c : Call) (old : List ℕ) (j : Journal) → Agrees s j
@@ -107,7 +107,7 @@ all_more s clock c old j a =
       lines = each_more LineHolds _ j (line-holds s clock c old j a.agrees t) a.lines;
       numbers =
           record {
-            each = each_more NumberRises _ j (λ h. n h ∙ ap some a.numbers.due) a.numbers.each;
+            each = each_more NumberRises _ j (λ h. n h ∙ ap Some a.numbers.due) a.numbers.each;
             due = due-more s clock c old j a.numbers.due;
           };
       bytes = bytes-more s clock c old j a.bytes;
@@ -137,23 +137,23 @@ all (bytes_borrowed p n clock old o after exit d) = all-called (all p) _ clock o
 
 -- ---- the record's places
 
-held-open : (s : ClientSession) (h : Sound s) (n : ℕ) (k : OutstandingTransaction) → Holds s n k → opens s n ≡ some k
+held-open : (s : ClientSession) (h : Sound s) (n : ℕ) (k : OutstandingTransaction) → Holds s n k → opens s n ≡ Some k
 held-open s h n k w =
-    let here = Memᴰ.cast (ap (λ x. record { slot = x; text = w.place.text }) (sym w.is)) w.among in
+    let here = Memᴰ.cast (ap (λ x. record { request = x; text = w.place.text }) (sym w.is)) w.among in
     ap kind_of
     (in-found s.requests.next n s.requests.places (record { kind = k; text = w.place.text })
     (sound-facts s.requests (requests-sound s h)).places here)
 
-open-held : (s : ClientSession) (n : ℕ) (k : OutstandingTransaction) → opens s n ≡ some k → Holds s n k
+open-held : (s : ClientSession) (n : ℕ) (k : OutstandingTransaction) → opens s n ≡ Some k → Holds s n k
 open-held s n k e = at (lookup n s.requests.places) refl e
   where
-    at : (o : Option Request) → lookup n s.requests.places ≡ o → kind_of o ≡ some k → Holds s n k
-    at none q e = let z : ◌≡◌ {A = ℕ} 0 1 = cc in absurd (omega arith)
-    at (some r) q e =
+    at : (o : Option Request) → lookup n s.requests.places ≡ o → kind_of o ≡ Some k → Holds s n k
+    at None q e = let z : ◌≡◌ {A = ℕ} 0 1 = cc in absurd (omega arith)
+    at (Some r) q e =
         record {
           place = opened_place n r.kind r.text;
           among = found_in n s.requests.places q;
-          is = let f : r.kind ≡ k = cc in ap (slot.Open (record { 0 = n })) f;
+          is = let f : r.kind ≡ k = cc in ap (λ x. Some (record { 0 = n }, x)) f;
         }
 
 -- ---- the theorems

@@ -1,8 +1,7 @@
 -- What holds beside demand 3 over the same traces: the session stays sound, the numbers of requests rise by 1, and the acknowledgements add up to
 -- the bytes.
 -- Assumes nothing.
-use Rattle.std.specs.Prelude.{ℕ, ◌+◌, ◌%◌, ◌^◌, ◌≡◌, Bool, true, false, cond, ◌&&◌, ◌||◌, [], ◌∷◌}
-use Rattle.std.proofs.Math.Option.{Option, none, some}
+use Rattle.std.specs.Prelude.{ℕ, ◌+◌, ◌%◌, ◌^◌, ◌≡◌, Bool, true, false, cond, ◌&&◌, ◌||◌, [], ◌∷◌, Option, Some, None}
 use Rattle.session.specs.declared.record.ClientSession.{ClientSession}
 use Rattle.session_laws.specs.Numbered.{asks}
 use Rattle.session_laws.specs.Sound.{Sound}
@@ -18,8 +17,8 @@ pub record SoundSession (s : ClientSession) (j : Journal) : Type 0 where
 
 -- not turned away
 abbrev pub passed : Option ℕ → Bool
-passed none = true
-passed (some k) = false
+passed None = true
+passed (Some k) = false
 
 -- how many numbers a line gave, which is 1 of a request that wasn't turned away and else 0; and how many were given
 abbrev pub gave : Line → ℕ
@@ -31,7 +30,7 @@ given_in (l ∷ before) = given_in before + gave l
 
 -- "Numbers for requests start at 1 and rise by 1": each is one more than the requests before it that weren't turned away
 abbrev pub NumberRises : Line → Journal → Type 0
-NumberRises l before = gave l ≡ 1 → number_sent l.sent ≡ some (given_in before + 1)
+NumberRises l before = gave l ≡ 1 → number_sent l.sent ≡ Some (given_in before + 1)
 
 pub record Numbered (s : ClientSession) (j : Journal) : Type 0 where
   pub each : Each NumberRises j

@@ -1,8 +1,7 @@
 -- The journal: every call and message since the session was opened, each with its outcome. A line is the call with its arguments, by which number
 -- it was turned away, if it was, and what it sent.
 -- Assumes nothing.
-use Rattle.std.specs.Prelude.{ℕ, ◌≡◌, List, ◌∷◌, ◌++◌}
-use Rattle.std.proofs.Math.Option.{Option}
+use Rattle.std.specs.Prelude.{ℕ, ◌≡◌, List, ◌∷◌, ◌++◌, Option}
 use Rattle.session.specs.Calls.{Call, Message}
 
 pub record Line : Type 0 where

@@ -2,8 +2,7 @@
 -- with its arguments, and its outcome, that is by which number it was turned away, if it was, and what it sent." So nothing here knows the record,
 -- a plan or a step. `specs/Meaning.antt` says the same without the searches.
 -- Assumes nothing.
-use Rattle.std.specs.Prelude.{ℕ, Bool, true, false, cond, ◌||◌, List, [], ◌∷◌, eqb, drop}
-use Rattle.std.proofs.Math.Option.{Option, none, some}
+use Rattle.std.specs.Prelude.{ℕ, Bool, true, false, cond, ◌||◌, List, [], ◌∷◌, eqb, drop, Option, Some, None}
 use Rattle.numbers.specs.Numbers.{held}
 use Rattle.amf0.specs.Lookup.{or_else}
 use Rattle.messages.specs.Incoming.{decode, Command as Decoded}
@@ -43,17 +42,17 @@ pub data Said : Type 0 where
 
 -- "A request's number is the one in the command sent."
 unfoldable pub number_sent : List Message → Option ℕ
-number_sent [] = none
+number_sent [] = None
 number_sent (m ∷ ms) = or_else (request_number m.type_id m.body) (number_sent ms)
 
 abbrev pub asked_for : OutstandingTransaction → Option ℕ → Said
-asked_for k none = nothing
-asked_for k (some n) = asked n k
+asked_for k None = nothing
+asked_for k (Some n) = asked n k
 
 -- "a stop that sent deleteStream"
 abbrev pub is_there : Option ℕ → Bool
-is_there none = false
-is_there (some x) = true
+is_there None = false
+is_there (Some x) = true
 
 unfoldable pub delete_sent : List Message → Bool
 delete_sent [] = false
@@ -63,18 +62,18 @@ abbrev pub stop_said : List Message → Said
 stop_said ms = cond (delete_sent ms) deleted nothing
 
 -- "Grant: a success reply to an open createStream whose first argument is a Number. It gives the stream number", and the number is held
-abbrev pub grant_number : Argument → Option ℕ
-grant_number (argument.Number x) = some (held x)
-grant_number argument.Absent = none
-grant_number argument.Object = none
-grant_number argument.Other = none
+abbrev pub grant_number : Option Argument → Option ℕ
+grant_number (Some (argument.Number x)) = Some (held x)
+grant_number (Some argument.Object) = None
+grant_number (Some argument.Other) = None
+grant_number None = None
 
 -- "Notice: an onStatus message with a code"
-abbrev pub notice_said : OnStatus → Said
-notice_said status.PlayStart = started_play
-notice_said status.PublishStart = started_publish
-notice_said (status.Other start len) = nothing
-notice_said status.Invalid = nothing
+abbrev pub notice_said : Option OnStatus → Said
+notice_said (Some status.PlayStart) = started_play
+notice_said (Some status.PublishStart) = started_publish
+notice_said (Some (status.Other code)) = nothing
+notice_said None = nothing
 
 -- a command that came in the body b
 abbrev pub command_said : List ℕ → Command → CommandName → Said
@@ -84,8 +83,8 @@ command_said b c name.OnStatus = notice_said (code_at b (drop c.args b))
 command_said b c name.Other = nothing
 
 unfoldable pub message_said : List ℕ → Option Decoded → Said
-message_said b none = nothing
-message_said b (some c) = command_said b (command_at b c) (command_at b c).name
+message_said b None = nothing
+message_said b (Some c) = command_said b (command_at b c) (command_at b c).name
 
 -- a line that wasn't turned away
 unfoldable pub said_well : Call → List Message → Said
@@ -113,8 +112,8 @@ closes_only deleted = nothing
 
 -- "A turned-away line counts for nothing, except that 4 and 5 close."
 abbrev pub said_by : Option ℕ → Call → List Message → Said
-said_by none c ms = said_well c ms
-said_by (some k) c ms = cond (eqb k 4 || eqb k 5) (closes_only (said_well c ms)) nothing
+said_by None c ms = said_well c ms
+said_by (Some k) c ms = cond (eqb k 4 || eqb k 5) (closes_only (said_well c ms)) nothing
 
 unfoldable pub said : Line → Said
 said l = said_by l.turned_away l.call l.sent
@@ -125,16 +124,16 @@ said l = said_by l.turned_away l.call l.sent
 -- Read from the newest line back, the first line that has the number tells.
 unfoldable pub open_by : Said → ℕ → Option OutstandingTransaction → Option OutstandingTransaction
 open_by nothing n older = older
-open_by (asked m k) n older = cond (eqb m n) (some k) older
-open_by (resulted m x) n older = cond (eqb m n) none older
-open_by (failed m) n older = cond (eqb m n) none older
+open_by (asked m k) n older = cond (eqb m n) (Some k) older
+open_by (resulted m x) n older = cond (eqb m n) None older
+open_by (failed m) n older = cond (eqb m n) None older
 open_by started_play n older = older
 open_by started_publish n older = older
 open_by deleted n older = older
 
 -- the kind and purpose that the open number n was asked for
 unfoldable pub rule_open : Journal → ℕ → Option OutstandingTransaction
-rule_open [] n = none
+rule_open [] n = None
 rule_open (l ∷ older) n = open_by (said l) n (rule_open older n)
 
 -- ---- The latest line
@@ -148,20 +147,20 @@ pub data Mark : Type 0 where
 
 -- a `_result`, by what was open under its number
 abbrev pub mark_reply : Option ℕ → Option OutstandingTransaction → Option Mark
-mark_reply x none = none
-mark_reply x (some ConnectionRequested) = some accepted
-mark_reply none (some (CreateStream p)) = none
-mark_reply (some x) (some (CreateStream p)) = some (grant p x)
+mark_reply x None = None
+mark_reply x (Some ConnectionRequested) = Some accepted
+mark_reply None (Some (CreateStream p)) = None
+mark_reply (Some x) (Some (CreateStream p)) = Some (grant p x)
 
 -- "whether it was open at a line is judged by the lines before"
 unfoldable pub mark_by : Said → Journal → Option Mark
-mark_by nothing older = none
-mark_by (asked n k) older = none
+mark_by nothing older = None
+mark_by (asked n k) older = None
 mark_by (resulted n x) older = mark_reply x (rule_open older n)
-mark_by (failed n) older = none
-mark_by started_play older = none
-mark_by started_publish older = none
-mark_by deleted older = some stopped
+mark_by (failed n) older = None
+mark_by started_play older = None
+mark_by started_publish older = None
+mark_by deleted older = Some stopped
 
 unfoldable pub mark : Line → Journal → Option Mark
 mark l older = mark_by (said l) older
@@ -172,12 +171,12 @@ pub record Found (A : Type 0) : Type 0 where
   pub since : List Line
 
 unfoldable pub found_or : {A : Type 0} → Line → Option A → Option (Found A) → Option (Found A)
-found_or l (some a) older = some (record { what = a; since = [] })
-found_or l none none = none
-found_or l none (some r) = some (record { what = r.what; since = l ∷ r.since })
+found_or l (Some a) older = Some (record { what = a; since = [] })
+found_or l None None = None
+found_or l None (Some r) = Some (record { what = r.what; since = l ∷ r.since })
 
 unfoldable pub latest : {A : Type 0} → (Line → Journal → Option A) → Journal → Option (Found A)
-latest is [] = none
+latest is [] = None
 latest is (l ∷ older) = found_or l (is l older) (latest is older)
 
 -- "came since"
@@ -214,8 +213,8 @@ stage_by stopped since = Connected
 stage_by (grant p x) since = cond (any_since (is_own p) since) (running_stage p) (requested_stage p)
 
 unfoldable pub stage_of : Option (Found Mark) → ClientState
-stage_of none = Disconnected
-stage_of (some r) = stage_by r.what r.since
+stage_of None = Disconnected
+stage_of (Some r) = stage_by r.what r.since
 
 unfoldable pub rule_stage : Journal → ClientState
 rule_stage j = stage_of (latest mark j)
@@ -223,10 +222,10 @@ rule_stage j = stage_of (latest mark j)
 -- ---- The active stream
 
 abbrev pub grant_in : Option Mark → Option ℕ
-grant_in none = none
-grant_in (some accepted) = none
-grant_in (some (grant p x)) = some x
-grant_in (some stopped) = none
+grant_in None = None
+grant_in (Some accepted) = None
+grant_in (Some (grant p x)) = Some x
+grant_in (Some stopped) = None
 
 -- a grant, with its stream number
 unfoldable pub grant_at : Line → Journal → Option ℕ
@@ -244,16 +243,16 @@ is_deleted deleted = true
 
 -- "The active stream is the latest grant's number, absent if there is none or such a stop came since."
 unfoldable pub active_of : Option (Found ℕ) → Option ℕ
-active_of none = none
-active_of (some r) = cond (any_since is_deleted r.since) none (some r.what)
+active_of None = None
+active_of (Some r) = cond (any_since is_deleted r.since) None (Some r.what)
 
 unfoldable pub rule_active : Journal → Option ℕ
 rule_active j = active_of (latest grant_at j)
 
 -- the latest grant's number, whether or not a stop came since
 abbrev pub number_found : Option (Found ℕ) → Option ℕ
-number_found none = none
-number_found (some r) = some r.what
+number_found None = None
+number_found (Some r) = Some r.what
 
 unfoldable pub latest_grant : Journal → Option ℕ
 latest_grant j = number_found (latest grant_at j)

@@ -1,9 +1,8 @@
 -- Whole runs from the default settings, as rows of one table: the calls, each with the clock and the space that it is given, and how the run ends.
 -- `proofs/Runs.antt` has the theorem that each row holds, by computation, and that each run is a trace.
 -- Assumes nothing.
-use Rattle.std.specs.Prelude.{ℕ, Bool, true, false, cond, List, [], ◌∷◌, ◌++◌, map, replicate}
+use Rattle.std.specs.Prelude.{ℕ, Bool, true, false, cond, List, [], ◌∷◌, ◌++◌, map, replicate, Result, Ok, Err, Option, Some, None}
 use Prim.Native.String.{String}
-use Rattle.std.proofs.Math.Option.{Option, none, some}
 use Rattle.octets.specs.Compare.{ascii}
 use Rattle.numbers.specs.Numbers.{number_of}
 use Rattle.amf0.specs.Value.{number, text, object, null, end, prop, Values, nil, cons}
@@ -15,6 +14,7 @@ use Rattle.bodies.specs.Bodies.{connect_body, delete_stream_body, publish_body}
 use Rattle.requests.specs.declared.outstanding_transaction.OutstandingTransaction.{OutstandingTransaction}
 use Rattle.session.specs.Calls.{Call, connect, play, publish, stop_playback, stop_publishing, ping, picture, bytes, message, Message, plain, on_stream}
 use Rattle.session.specs.Numbers.{event_place}
+use Rattle.session.specs.declared.errors.ClientSessionError.{ClientSessionError}
 use Rattle.session.specs.declared.events.ClientSessionEvent.TheVariants.{ConnectionRequestAccepted}
 use Rattle.session.specs.Record.{default_config, open_of}
 use Rattle.session.specs.Step.{step, Stepped}
@@ -22,7 +22,7 @@ use Rattle.session.specs.declared.record.ClientSession.{ClientSession}
 use Rattle.session.specs.declared.result.ClientSessionResult.{ClientSessionResult}
 use Rattle.session.specs.declared.result.ClientSessionResult.TheVariants.{OutboundResponse, RaisedEvent, UnhandleableMessageReceived}
 use Rattle.session.specs.declared.result.Outcome.{Outcome}
-use Rattle.session.specs.declared.result.Outcome.TheVariants.{Refused, Nothing, One, Two, Accepted, Pinged}
+use Rattle.session.specs.declared.result.Outcome.TheVariants.{Nothing, One, Two, Accepted, Pinged}
 use Rattle.session.specs.declared.state.ClientState.{ClientState}
 use Rattle.session.specs.declared.state.ClientState.TheVariants.{Disconnected, Connected, Playing, PublishRequested, Publishing}
 use Rattle.journal.specs.Lines.{Journal}
@@ -40,7 +40,7 @@ pub record Input : Type 0 where
 pub record Ran : Type 0 where
   pub session : ClientSession
   pub journal : Journal
-  pub last : Outcome
+  pub last : Result Outcome ClientSessionError
 
 abbrev pub start : Ran
 start = record { session = (open_of default_config).session; journal = []; last = (open_of default_config).outcome }
@@ -65,8 +65,8 @@ pub record End : Type 0 where
   pub raised : List ℕ
 
 abbrev pub is_open : Option OutstandingTransaction → Bool
-is_open none = false
-is_open (some k) = true
+is_open None = false
+is_open (Some k) = true
 
 abbrev pub open_among : Journal → List ℕ → List ℕ
 open_among j [] = []
@@ -81,13 +81,13 @@ event (OutboundResponse p) = []
 event (RaisedEvent e) = event_place e ∷ []
 event (UnhandleableMessageReceived t) = []
 
-abbrev pub events : Outcome → List ℕ
-events (Refused e) = []
-events Nothing = []
-events (One a) = event a
-events (Two a b) = []
-events (Accepted a b) = event_place ConnectionRequestAccepted ∷ []
-events (Pinged a t) = []
+abbrev pub events : Result Outcome ClientSessionError → List ℕ
+events (Err e) = []
+events (Ok Nothing) = []
+events (Ok (One a)) = event a
+events (Ok (Two a b)) = []
+events (Ok (Accepted a b)) = event_place ConnectionRequestAccepted ∷ []
+events (Ok (Pinged a t)) = []
 
 abbrev pub end_of : Ran → End
 end_of r =
@@ -159,7 +159,7 @@ abbrev pub playing : List Input
 playing = connects ∷ connects ∷ result 1 ∷ plays ∷ grants 3 5 ∷ notice "NetStream.Play.Start" ∷ []
 
 abbrev pub passes : ℕ → List (Option ℕ)
-passes n = replicate n none
+passes n = replicate n None
 
 -- in turn: nothing sent and nothing raised
 abbrev pub silently : ClientState → Option ℕ → List ℕ → List (Option ℕ) → End
@@ -191,48 +191,48 @@ row is e = record { calls = is; ends = e }
 
 abbrev pub rows : List Row
 rows =
-    row (connects ∷ []) (sending Disconnected none (1 ∷ []) (passes 1) (plain 20 (time 0) (connect_body 1 (ascii "app") (ascii "WIN 23,0,0,207") false [])))
-    ∷ row connected (accepting Connected none [] (passes 2))
+    row (connects ∷ []) (sending Disconnected None (1 ∷ []) (passes 1) (plain 20 (time 0) (connect_body 1 (ascii "app") (ascii "WIN 23,0,0,207") false [])))
+    ∷ row connected (accepting Connected None [] (passes 2))
     -- a picture goes out on its stream, with its bytes and its time; then a stop
     ∷ row (publishing ++ (shows ∷ []))
-    (sending Publishing (some 6) [] (passes 6)
+    (sending Publishing (Some 6) [] (passes 6)
     (record { type_id = 9; time = time 40; stream = stream 6; droppable = true; uncompressed = false; body = 0x17 ∷ 0x01 ∷ [] }))
-    ∷ row (publishing ++ (plainly stop_publishing ∷ [])) (sending Connected none [] (passes 6) (on_stream 20 (time 0) (stream 6) (delete_stream_body 6)))
+    ∷ row (publishing ++ (plainly stop_publishing ∷ [])) (sending Connected None [] (passes 6) (on_stream 20 (time 0) (stream 6) (delete_stream_body 6)))
     -- a picture before the Start notice, and before anything
-    ∷ row (connected ++ (publishes ∷ grants 2 6 ∷ shows ∷ [])) (silently PublishRequested (some 6) [] (some 2 ∷ passes 4))
-    ∷ row (shows ∷ []) (silently Disconnected none [] (some 2 ∷ []))
+    ∷ row (connected ++ (publishes ∷ grants 2 6 ∷ shows ∷ [])) (silently PublishRequested (Some 6) [] (Some 2 ∷ passes 4))
+    ∷ row (shows ∷ []) (silently Disconnected None [] (Some 2 ∷ []))
     -- a second connect reply while Playing keeps the active stream. Starred: a stop at Connected is an empty success
-    ∷ row playing (raising Playing (some 5) (2 ∷ []) (passes 6) 2)
-    ∷ row (playing ++ (result 2 ∷ plainly stop_playback ∷ [])) (silently Connected (some 5) [] (passes 8))
+    ∷ row playing (raising Playing (Some 5) (2 ∷ []) (passes 6) 2)
+    ∷ row (playing ++ (result 2 ∷ plainly stop_playback ∷ [])) (silently Connected (Some 5) [] (passes 8))
     -- a second createStream reply while Playing is granted
     ∷ row (connected ++ (plays ∷ publishes ∷ grants 2 1 ∷ notice "NetStream.Play.Start" ∷ grants 3 2 ∷ []))
-    (sending PublishRequested (some 2) [] (passes 7) (on_stream 20 (time 0) (stream 2) (publish_body (ascii "key") Live)))
+    (sending PublishRequested (Some 2) [] (passes 7) (on_stream 20 (time 0) (stream 2) (publish_body (ascii "key") Live)))
     -- a picture that comes is an event on the active stream, nothing on another, and refused while Publishing
-    ∷ row (playing ++ (plainly (message 9 (time 33) (stream 5) []) ∷ [])) (raising Playing (some 5) (2 ∷ []) (passes 7) 5)
-    ∷ row (playing ++ (plainly (message 9 (time 33) (stream 6) []) ∷ [])) (silently Playing (some 5) (2 ∷ []) (passes 7))
-    ∷ row (publishing ++ (plainly (message 9 (time 33) (stream 6) []) ∷ [])) (silently Publishing (some 6) [] (some 2 ∷ passes 5))
+    ∷ row (playing ++ (plainly (message 9 (time 33) (stream 5) []) ∷ [])) (raising Playing (Some 5) (2 ∷ []) (passes 7) 5)
+    ∷ row (playing ++ (plainly (message 9 (time 33) (stream 6) []) ∷ [])) (silently Playing (Some 5) (2 ∷ []) (passes 7))
+    ∷ row (publishing ++ (plainly (message 9 (time 33) (stream 6) []) ∷ [])) (silently Publishing (Some 6) [] (Some 2 ∷ passes 5))
     -- 5 and 4 close the request, and 12 doesn't
-    ∷ row (connected ++ (publishes ∷ result 2 ∷ [])) (silently Connected none [] (some 5 ∷ passes 3))
-    ∷ row (connected ++ (publishes ∷ command "_error" (number_of 2) nil ∷ [])) (silently Connected none [] (some 4 ∷ passes 3))
-    ∷ row (connects ∷ record { clock = 0; space = 7; call = (result 1).call } ∷ []) (silently Disconnected none (1 ∷ []) (some 12 ∷ passes 1))
+    ∷ row (connected ++ (publishes ∷ result 2 ∷ [])) (silently Connected None [] (Some 5 ∷ passes 3))
+    ∷ row (connected ++ (publishes ∷ command "_error" (number_of 2) nil ∷ [])) (silently Connected None [] (Some 4 ∷ passes 3))
+    ∷ row (connects ∷ record { clock = 0; space = 7; call = (result 1).call } ∷ []) (silently Disconnected None (1 ∷ []) (Some 12 ∷ passes 1))
     -- Starred: reply 1.9 closes request 1, and a second reply to it is unknown
-    ∷ row (connects ∷ command "_result" 0x3ffe_6666_6666_6666 nil ∷ result 1 ∷ []) (raising Connected none [] (passes 3) 8)
+    ∷ row (connects ∷ command "_result" 0x3ffe_6666_6666_6666 nil ∷ result 1 ∷ []) (raising Connected None [] (passes 3) 8)
     -- Starred: peer size 2,147,483,647 passes, 2,147,483,648 is 7
-    ∷ row (comes 1 (0x7f ∷ 0xff ∷ 0xff ∷ 0xff ∷ []) ∷ []) (silently Disconnected none [] (passes 1))
-    ∷ row (comes 1 (0x80 ∷ 0x00 ∷ 0x00 ∷ 0x00 ∷ []) ∷ []) (silently Disconnected none [] (some 7 ∷ []))
+    ∷ row (comes 1 (0x7f ∷ 0xff ∷ 0xff ∷ 0xff ∷ []) ∷ []) (silently Disconnected None [] (passes 1))
+    ∷ row (comes 1 (0x80 ∷ 0x00 ∷ 0x00 ∷ 0x00 ∷ []) ∷ []) (silently Disconnected None [] (Some 7 ∷ []))
     -- a reply of type 17 counts like one of type 20; a NaN grants stream 0; a second Start notice is refused
-    ∷ row (connects ∷ comes 17 (0x00 ∷ command_body "_result" (number_of 1) nil) ∷ []) (accepting Connected none [] (passes 2))
+    ∷ row (connects ∷ comes 17 (0x00 ∷ command_body "_result" (number_of 1) nil) ∷ []) (accepting Connected None [] (passes 2))
     ∷ row (connected ++ (publishes ∷ command "_result" (number_of 2) (cons (number 0x7ff8_0000_0000_0000) nil) ∷ []))
-    (sending PublishRequested (some 0) [] (passes 4) (on_stream 20 (time 0) (stream 0) (publish_body (ascii "key") Live)))
-    ∷ row (publishing ++ (notice "NetStream.Publish.Start" ∷ [])) (silently Publishing (some 6) [] (some 2 ∷ passes 5))
+    (sending PublishRequested (Some 0) [] (passes 4) (on_stream 20 (time 0) (stream 0) (publish_body (ascii "key") Live)))
+    ∷ row (publishing ++ (notice "NetStream.Publish.Start" ∷ [])) (silently Publishing (Some 6) [] (Some 2 ∷ passes 5))
     -- our ping carries the clock, and the peer's is answered with its time
-    ∷ row (record { clock = 9; space = 6; call = ping } ∷ []) (sending Disconnected none [] (passes 1) (plain 4 (time 9) (0x00 ∷ 0x06 ∷ 0x00 ∷ 0x00 ∷ 0x00 ∷ 0x09 ∷ [])))
+    ∷ row (record { clock = 9; space = 6; call = ping } ∷ []) (sending Disconnected None [] (passes 1) (plain 4 (time 9) (0x00 ∷ 0x06 ∷ 0x00 ∷ 0x00 ∷ 0x00 ∷ 0x09 ∷ [])))
     ∷ row (comes 4 (0x00 ∷ 0x06 ∷ 0x00 ∷ 0x00 ∷ 0x00 ∷ 0x07 ∷ []) ∷ [])
-    (sending Disconnected none [] (passes 1) (plain 4 (time 0) (0x00 ∷ 0x07 ∷ 0x00 ∷ 0x00 ∷ 0x00 ∷ 0x07 ∷ [])))
+    (sending Disconnected None [] (passes 1) (plain 4 (time 0) (0x00 ∷ 0x07 ∷ 0x00 ∷ 0x00 ∷ 0x00 ∷ 0x07 ∷ [])))
     -- document 01's whole case: a window doesn't apply to the count that brought it
     ∷ row (plainly (bytes 10) ∷ comes 5 (0x00 ∷ 0x00 ∷ 0x00 ∷ 0x04 ∷ []) ∷ record { clock = 7; space = 4; call = bytes 4 } ∷ [])
-    (sending Disconnected none [] (passes 3) (plain 3 (time 7) (0x00 ∷ 0x00 ∷ 0x00 ∷ 0x04 ∷ [])))
+    (sending Disconnected None [] (passes 3) (plain 3 (time 7) (0x00 ∷ 0x00 ∷ 0x00 ∷ 0x04 ∷ [])))
     -- past 4,294,967,295 the sum has reached the window, and its low 32 bits are sent
     ∷ row (comes 5 (0xff ∷ 0xff ∷ 0xff ∷ 0xff ∷ []) ∷ plainly (bytes 4294967294) ∷ plainly (bytes 3) ∷ [])
-    (sending Disconnected none [] (passes 3) (plain 3 (time 0) (0x00 ∷ 0x00 ∷ 0x00 ∷ 0x01 ∷ [])))
+    (sending Disconnected None [] (passes 3) (plain 3 (time 0) (0x00 ∷ 0x00 ∷ 0x00 ∷ 0x01 ∷ [])))
     ∷ []

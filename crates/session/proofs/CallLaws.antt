@@ -1,169 +1,131 @@
 -- From what the code of a ping, of a publish and of a byte count found and wrote to what their plans come to.
 -- Assumes nothing.
-use Rattle.std.proofs.Common.{◌≡◌, ℕ, ◌+◌, ◌%◌, ◌^◌, ◌<◌, ◌≤◌, Bool, true, false, not, ltb, List, ◌++◌, length, drop, refl, append-nil, arith, le-leb}
+use Rattle.std.specs.Prelude.{Result, Ok, Err, IsErrAnd, cond, Option, Some, None}
+use Rattle.std.proofs.Common.{◌≡◌, ℕ, ◌+◌, ◌%◌, ◌^◌, ◌<◌, ◌≤◌, Bool, true, false, not, List, length, refl, append-nil, arith, le-leb, [], ◌∷◌, sym, ap, ◌∙◌, subst}
 use borrow.Author.Tests.{lt-leb}
-use Rattle.octets.specs.Output.{Written, answer, left}
-use Rattle.octets.specs.declared.output.Wrote.{Wrote}
-use Rattle.octets.specs.declared.output.Wrote.TheVariants.{Done, NoSpace}
+use Rattle.octets.specs.Output.{Written, no_space}
+use Rattle.octets.specs.declared.output.NoSpace.{NoSpace}
 use Rattle.messages.specs.declared.ids.RtmpTimestamp.{RtmpTimestamp}
 use Rattle.messages.specs.declared.ids.StreamNumber.{StreamNumber}
 use Rattle.messages.specs.declared.rtmp_message.UserControlEvent.TheVariants.{PingRequest}
 use Rattle.bodies.specs.Bodies.{control_body, word_body}
 use Rattle.requests.specs.Texts.{fits}
-use Rattle.requests.proofs.BoolLaws.{by_cases}
 use Rattle.requests.proofs.TextLaws.{fits-length}
-use Rattle.session.specs.Record.{with_counts}
-use Rattle.session.specs.Calls.{Message, plain, pinged}
+use Rattle.session.specs.Record.{is_session, with_counts}
+use Rattle.session.specs.Calls.{Call, Message, plain, sends, one}
 use Rattle.session.specs.Outcomes.{in_turn, sent_by, bodies, outcome_of}
-use Rattle.session.specs.Plan.{Plan, go, is_publishing, published_on, published, ping_plan, counted, counted_by, count}
-use Rattle.session.specs.Step.{away as turned, fitted}
-use Rattle.session.specs.Comes.{Comes, refused_with, quiet, packet_of, sent_as}
+use Rattle.session.specs.Plan.{Plan, Check, in_order, go, is_publishing, published_on, published, ping_plan, counted, counted_by, count}
+use Rattle.session.specs.Step.{plan}
+use Rattle.session.specs.Contract.{Does}
+use Rattle.session.specs.Comes.{Comes, called, refused_with, quiet, active_of, stream_of, packet_of}
 use Rattle.session.specs.declared.errors.ClientSessionError.{ClientSessionError}
-use Rattle.session.specs.declared.errors.ClientSessionError.TheVariants.{SessionInInvalidState, NoKnownActiveStreamIdWhenRequired, Space}
-use Rattle.session.specs.declared.record.ActiveStream.{ActiveStream}
-use Rattle.session.specs.declared.record.ActiveStream.TheVariants as active
+use Rattle.session.specs.declared.errors.ClientSessionError.TheVariants.{SessionInInvalidState, NoKnownActiveStreamIdWhenRequired, Space, NotASession}
 use Rattle.session.specs.declared.record.Called.{Called}
 use Rattle.session.specs.declared.record.ClientSession.{ClientSession}
-use Rattle.session.specs.declared.record.PeerWindow.TheVariants as window
-use Rattle.session.specs.declared.result.ClientSessionResult.TheVariants.{OutboundResponse}
-use Rattle.session.specs.declared.result.Outcome.TheVariants.{Pinged, One}
+use Rattle.session.specs.declared.result.Outcome.{Outcome}
+use Rattle.session.specs.declared.result.Outcome.TheVariants.{Pinged}
 use Rattle.session.specs.declared.result.Packet.{Packet}
-use Rattle.session.proofs.StepLaws.{comes-to, away, order_hit, order_miss, order-end, quiet-goes, sent-goes, not-said}
+use Rattle.session.specs.declared.state.ClientState.{ClientState}
+use Rattle.session.proofs.StepLaws.{err_is, no_room, done-length, away_13, does_as, away, order_hit, order_miss, order-end, as-after, quiet-goes, goes_short, goes_done}
 
 -- a text that refusal 9 doesn't meet can be written
 pub fits-short : (t : List ℕ) → fits t ≡ true → length t < 2 ^ 16
 fits-short t e = omega (arith, fits-length t e)
 
--- ---- a ping: its message and its time, or refusal 12, by what writing the body answered
-abbrev pinged_as : ClientSession → RtmpTimestamp → Wrote → Called
-pinged_as s t (Done n) = record { outcome = Pinged (packet_of 4 t (record { 0 = 0 }) false n) t; session = s }
-pinged_as s t NoSpace = refused_with s Space
-
-module _ {s : ClientSession} (t : RtmpTimestamp) {old exit : List ℕ} {r : Called} {w : Wrote} where
-  pinged-goes : (b : List ℕ) → Written old b exit w → r ≡ pinged_as s t w → Comes s (go (pinged (plain 4 t b) t) s) old r exit
-  unfolding fitted in_turn sent_by bodies outcome_of answer left
-  pinged-goes b h q =
-      by_cases (ltb (length old) (length b))
-      (λ y.
-      comes-to (turned Space s old) (rw (append-nil b, y)) (rw (q, h.answered, y)) (rw (h.list, y)))
-      (λ n.
-      comes-to
-      (record { outcome = Pinged (packet_of 4 t (record { 0 = 0 }) false (length b)) t; session = s; output = b ++ drop (length b) old })
-      (rw (append-nil b, n))
-      (rw (q, h.answered, n))
-      (rw (h.list, n)))
-
-  pub ping_unsent : Written old (control_body (PingRequest t)) exit w → w ≡ NoSpace → r ≡ refused_with s Space → Comes s (ping_plan s t) old r exit
-  unfolding ping_plan
-  ping_unsent h e q = pinged-goes (control_body (PingRequest t)) h (rw e q)
+-- ---- a ping: its message and its time, or refusal 12
+module _ {s : ClientSession} (t : RtmpTimestamp) {old exit : List ℕ} {w : Result ℕ NoSpace} where
+  pub ping_unsent : {o : Result Outcome ClientSessionError}
+      → Written old (control_body (PingRequest t)) exit w → w ≡ Err no_space → IsErrAnd o (λ d. d ≡ Space) → Comes s (ping_plan s t) old (called o s) exit
+  unfolding ping_plan in_turn sent_by bodies
+  ping_unsent h e g = goes_short (rw append-nil h) e (no_room s g)
 
   pub ping-sent : {n : ℕ} {p : Packet}
       → Written old (control_body (PingRequest t)) exit w
-      → w ≡ Done n
+      → w ≡ Ok n
       → p ≡ packet_of 4 t (record { 0 = 0 }) false n
-      → r ≡ record { outcome = Pinged p t; session = s }
-      → Comes s (ping_plan s t) old r exit
-  unfolding ping_plan
-  ping-sent h e f q = pinged-goes (control_body (PingRequest t)) h (rw e (rw f at q))
+      → Comes s (ping_plan s t) old (called (Ok (Pinged p t)) s) exit
+  unfolding ping_plan in_turn sent_by bodies outcome_of
+  ping-sent h e f = goes_done (rw append-nil h) e refl (rw (f, done-length h e)) refl
 
 -- by what a match of the code found
 by_case : {A : Type 0} {s : ClientSession} {old exit : List ℕ} {r : Called} {a b : A} (f : A → Plan)
     → a ≡ b → Comes s (f b) old r exit → Comes s (f a) old r exit
 by_case f e d = rw e d
 
--- ---- a publish: the stage, the active stream, what the caller gave
-module _ {s : ClientSession} (clock : RtmpTimestamp) {old : List ℕ} {r : Called} {t : Bool} (p : t ≡ is_publishing s.progress.state) (b : Bool) (e : ClientSessionError) where
-  module _ (m : StreamNumber → Message) where
-    pub not-publishing : not t ≡ true
-        → r ≡ refused_with s (SessionInInvalidState s.progress.state)
-        → Comes s (published s clock (record { when = b; says = e }) m) old r old
-    unfolding published
-    not-publishing h q = order_hit _ _ _ _ (not-said p h) q
+-- ---- a publish: the stream that was found, and what the caller gave
+cond-ok : {A E : Type 0} (b : Bool) {x : Result A E} (d : E) {v : A} → cond b x (Err d) ≡ Ok v → (b ≡ true) × (x ≡ Ok v)
+cond-ok true d h = (refl, h)
+cond-ok false d h = (cc, cc)
 
-    -- at Publishing, by the active stream
-    on-stream : {exit : List ℕ} {a : ActiveStream}
-        → not t ≡ false
-        → s.progress.active ≡ a
-        → Comes s (published_on s clock (record { when = b; says = e }) m a) old r exit
-        → Comes s (published s clock (record { when = b; says = e }) m) old r exit
-    unfolding published
-    on-stream h i d =
-        order_miss _ _ _ _ (not-said p h) (order-end _ (by_case (published_on s clock (record { when = b; says = e }) m) i d))
+active-ok : (a : Option StreamNumber) {x : StreamNumber} → active_of a ≡ Ok x → a ≡ Some x
+active-ok None h = cc
+active-ok (Some y) h = cc
 
-    pub no-stream : not t ≡ false
-        → s.progress.active ≡ active.None
-        → r ≡ refused_with s NoKnownActiveStreamIdWhenRequired
-        → Comes s (published s clock (record { when = b; says = e }) m) old r old
-    no-stream h i q = on-stream h i (away q)
+-- which refusal it is
+data Why (i : Bool) (p : Bool) (a : Option StreamNumber) (g : ClientState) : ClientSessionError → Type 0 where
+  no_session : i ≡ false → Why i p a g NotASession
+  elsewhere : i ≡ true → p ≡ false → Why i p a g (SessionInInvalidState g)
+  streamless : i ≡ true → p ≡ true → a ≡ None → Why i p a g NoKnownActiveStreamIdWhenRequired
 
-    pub not-given : {x : StreamNumber}
-        → not t ≡ false
-        → s.progress.active ≡ active.Some x
-        → b ≡ true
-        → r ≡ refused_with s e
-        → Comes s (published s clock (record { when = b; says = e }) m) old r old
-    not-given h i k q = on-stream h i (order_hit _ _ _ _ k q)
+why : (i p : Bool) (a : Option StreamNumber) (g : ClientState) {e : ClientSessionError}
+    → cond i (cond p (active_of a) (Err (SessionInInvalidState g))) (Err NotASession) ≡ Err e → Why i p a g e
+why false p a g {e} h = let z : NotASession ≡ e = cc in subst (Why false p a g) z (no_session refl)
+why true false a g {e} h = let z : SessionInInvalidState g ≡ e = cc in subst (Why true false a g) z (elsewhere refl refl)
+why true true None g {e} h = let z : NoKnownActiveStreamIdWhenRequired ≡ e = cc in subst (Why true true None g) z (streamless refl refl refl)
+why true true (Some x) g h = absurd (let z : ◌≡◌ {A = ℕ} 0 1 = cc in omega arith)
 
-  pub published-goes : (k : ℕ) (time : RtmpTimestamp) (d : Bool) {x : StreamNumber} {body exit : List ℕ} {w : Wrote}
-      → not t ≡ false
-      → s.progress.active ≡ active.Some x
-      → b ≡ false
-      → Written old body exit w
-      → r ≡ sent_as s s k time x d w
-      → Comes s
-      (published s clock (record { when = b; says = e })
-      (λ y. record { type_id = k; time = time; stream = y; droppable = d; uncompressed = false; body = body }))
-      old r exit
-  published-goes k time d h i g v q = on-stream _ h i (order_miss _ _ _ _ g (order-end _ (sent-goes v q)))
+module _ {s : ClientSession} {clock : RtmpTimestamp} {c : Call} {old : List ℕ} (given : Check) (m : StreamNumber → Message)
+    (p : plan s clock c ≡ published s clock given m) {l : Result StreamNumber ClientSessionError} (f : l ≡ stream_of s) where
+  pub on-stream : {x : StreamNumber} {r : Called} {exit : List ℕ} → l ≡ Ok x
+      → Comes s (in_order (given ∷ []) (go (one (sends (m x))) s)) old r exit → Does s clock c old r exit
+  unfolding published stream_of
+  on-stream h d =
+      let i = cond-ok (is_session s) _ (sym f ∙ h) in
+      let j = cond-ok (is_publishing s.progress.state) _ i.1 in
+      does_as i.0 p (order_miss _ _ _ _ (ap not j.0) (order-end _ (by_case (published_on s clock given m) (active-ok s.progress.active j.1) d)))
 
--- ---- a byte count: the sums of the code, and the session with them
-module _ (s : ClientSession) (clock : RtmpTimestamp) (n : ℕ) {after : ClientSession} {pending total : ℕ}
-    (sum : total ≡ (s.link.total + n) % 2 ^ 64)
-    (made : after ≡ with_counts s pending total) where
-  counted_is : after ≡ counted s clock n pending
-  counted_is = rw (made, sum)
+  for_why : {e : ClientSessionError} {o : Result Outcome ClientSessionError} → Why (is_session s) (is_publishing s.progress.state) s.progress.active s.progress.state e
+      → o ≡ Err e → Does s clock c old (called o s) old
+  unfolding published
+  for_why (no_session i) q = away_13 i (ap (λ y. called y s) q)
+  for_why (elsewhere i j) q = does_as i p (order_hit _ _ _ _ (ap not j) (ap (λ y. called y s) q))
+  for_why (streamless i j k) q =
+      does_as i p (order_miss _ _ _ _ (ap not j) (order-end _ (by_case (published_on s clock given m) k (away (ap (λ y. called y s) q)))))
+
+  pub no-stream : {e : ClientSessionError} {o : Result Outcome ClientSessionError} → l ≡ Err e → IsErrAnd o (λ d. d ≡ e) → Does s clock c old (called o s) old
+  unfolding stream_of
+  no-stream h g = for_why (why (is_session s) (is_publishing s.progress.state) s.progress.active s.progress.state (sym f ∙ h)) (err_is g)
+
+  pub not-given : {x : StreamNumber} {r : Called} → l ≡ Ok x → given.when ≡ true → r ≡ refused_with s given.says → Does s clock c old r old
+  not-given h k q = on-stream h (order_hit _ _ _ _ k q)
+
+-- ---- a byte count
+module _ (s : ClientSession) (clock : RtmpTimestamp) (n : ℕ) {total : ℕ} (sum : total ≡ (s.link.total + n) % 2 ^ 64) where
+  counted_is : (pending : ℕ) → with_counts s pending total ≡ counted s clock n pending
+  counted_is pending = ap (with_counts s pending) sum
 
   module _ {old : List ℕ} {r : Called} where
-    pub count-alone : s.link.window ≡ window.None → pending ≡ s.link.pending → r ≡ quiet after → Comes s (count s clock n) old r old
+    pub count-alone : s.link.window ≡ None → r ≡ quiet (with_counts s s.link.pending total) → Comes s (count s clock n) old r old
     unfolding count
-    count-alone w p q = by_case (counted_by s clock n) w (quiet-goes (rw (counted_is, p) at q))
+    count-alone w q = by_case (counted_by s clock n) w (quiet-goes (rw (counted_is s.link.pending) at q))
 
-    pub count-below : (size : ℕ)
-        → s.link.window ≡ window.Some size
+    pub count-below : (size : ℕ) {pending : ℕ}
+        → s.link.window ≡ Some size
         → s.link.pending + n < size
         → pending ≡ s.link.pending + n
-        → r ≡ quiet after
+        → r ≡ quiet (with_counts s pending total)
         → Comes s (count s clock n) old r old
     unfolding count
-    count-below size w l p q =
-        by_case (counted_by s clock n) w (rw (lt-leb size (s.link.pending + n) l) (quiet-goes (rw (counted_is, p) at q)))
+    count-below size {pending} w l p q =
+        by_case (counted_by s clock n) w (rw (lt-leb size (s.link.pending + n) l) (quiet-goes (rw (counted_is pending, p) at q)))
 
-    count-reached : (size word : ℕ) {wrote : Wrote} {exit : List ℕ}
-        → s.link.window ≡ window.Some size
+    pub count-reached : (size word : ℕ) {exit : List ℕ}
+        → s.link.window ≡ Some size
         → size ≤ s.link.pending + n
-        → pending ≡ 0
         → word ≡ (s.link.pending + n) % 2 ^ 32
-        → Written old (word_body word) exit wrote
-        → r ≡ sent_as s after 3 clock (record { 0 = 0 }) false wrote
+        → Comes s (go (one (sends (plain 3 clock (word_body word)))) (with_counts s 0 total)) old r exit
         → Comes s (count s clock n) old r exit
     unfolding count
-    count-reached size word w l p i v q =
+    count-reached size word w l i d =
         by_case (counted_by s clock n) w
-        (rw (le-leb size (s.link.pending + n) l) (sent-goes (rw i at v) (rw (counted_is, p) at q)))
-
--- a count that reaches the window, by what writing the acknowledgement answered
-module _ (s : ClientSession) (clock : RtmpTimestamp) (n : ℕ) {total : ℕ} (sum : total ≡ (s.link.total + n) % 2 ^ 64) (size word : ℕ)
-    {old exit : List ℕ} {r : Called} {wrote : Wrote}
-    (w : s.link.window ≡ window.Some size)
-    (l : size ≤ s.link.pending + n)
-    (i : word ≡ (s.link.pending + n) % 2 ^ 32)
-    (v : Written old (word_body word) exit wrote) where
-  pub count-unsent : wrote ≡ NoSpace → r ≡ refused_with s Space → Comes s (count s clock n) old r exit
-  count-unsent e q = count-reached s clock n {after = with_counts s 0 total} sum refl size word w l refl i v (rw e q)
-
-  pub count-sent : {m : ℕ} {p : Packet}
-      → wrote ≡ Done m
-      → p ≡ packet_of 3 clock (record { 0 = 0 }) false m
-      → r ≡ record { outcome = One (OutboundResponse p); session = with_counts s 0 total }
-      → Comes s (count s clock n) old r exit
-  count-sent e f q = count-reached s clock n sum refl size word w l refl i v (rw e (rw f at q))
+        (rw (le-leb size (s.link.pending + n) l, ← i) (as-after (counted_is 0) d))

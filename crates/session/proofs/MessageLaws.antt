@@ -1,12 +1,11 @@
 -- From what the code for a message that came found and wrote to what its plan comes to: an event, a message that isn't handled, a request closed
 -- with a refusal, messages written one after the other.
 -- Assumes nothing.
-use Rattle.std.proofs.Common.{◌≡◌, ℕ, Bool, true, false, eqb, ltb, List, ◌++◌, length, drop, sym, refl, ◌∙◌, arith, le-ltb}
+use Rattle.std.specs.Prelude.{Ok, ◌⊎◌, Result, Option}
+use mathlib.Core.Logic.{inl, inr}
+use Rattle.std.proofs.Common.{◌≡◌, ◌≢◌, ℕ, Bool, true, false, eqb, List, length, drop, sym, refl, ◌∙◌, arith, le-ltb}
 use native.Mathlib.Omega.{arith}
-use Rattle.octets.specs.Output.{Written, answer, left}
-use Rattle.octets.specs.declared.output.Wrote.{Wrote}
-use Rattle.octets.specs.declared.output.Wrote.TheVariants.{Done, NoSpace}
-use Rattle.requests.proofs.BoolLaws.{by_cases}
+use Rattle.amf0.specs.declared.read.Malformed.{Malformed}
 use Rattle.messages.specs.Incoming.{decode}
 use Rattle.messages.specs.Metadata.{metadata_at}
 use Rattle.messages.specs.Places.{placed}
@@ -17,47 +16,26 @@ use Rattle.messages.specs.declared.rtmp_message.Command.{Command}
 use Rattle.messages.specs.declared.rtmp_message.CommandName.{CommandName}
 use Rattle.messages.specs.declared.rtmp_message.DataMessage.{DataMessage}
 use Rattle.messages.specs.declared.rtmp_message.DataMessage.TheVariants as said
+use Rattle.messages.specs.declared.rtmp_message.PeerBandwidthLimitType.{PeerBandwidthLimitType}
 use Rattle.messages.specs.declared.rtmp_message.RtmpMessage.{RtmpMessage}
+use Rattle.messages.specs.declared.rtmp_message.RtmpMessage.TheVariants as message
 use Rattle.messages.specs.declared.rtmp_message.UserControlEvent.{UserControlEvent}
+use Rattle.messages.specs.declared.rtmp_message.UserControlEvent.TheVariants as event
 use Rattle.messages.specs.declared.stream_metadata.StreamMetadata.{StreamMetadata}
-use Rattle.session.specs.Calls.{raises, unhandled, Results, nothing, one}
-use Rattle.session.specs.Outcomes.{in_turn, sent_by, bodies, output, outcome_of}
+use Rattle.session.specs.Calls.{raises, unhandled, nothing, one}
+use Rattle.session.specs.Outcomes.{in_turn, sent_by, bodies, outcome_of}
 use Rattle.session.specs.Plan.{go, close as closing}
 use Rattle.session.specs.Step.{away as turned, fitted}
 use Rattle.session.specs.Message.{is_active, media_type, if_active, media_in, data_in, control_in, noticed, command_of, on_message}
 use Rattle.session.specs.Comes.{Comes, refused_with, quiet}
 use Rattle.session.specs.declared.errors.ClientSessionError.{ClientSessionError}
-use Rattle.session.specs.declared.errors.ClientSessionError.TheVariants.{Space}
 use Rattle.session.specs.declared.events.ClientSessionEvent.{ClientSessionEvent}
 use Rattle.session.specs.declared.events.ClientSessionEvent.TheVariants.{StreamMetadataReceived, VideoDataReceived, AudioDataReceived}
 use Rattle.session.specs.declared.record.Called.{Called}
 use Rattle.session.specs.declared.record.ClientSession.{ClientSession}
 use Rattle.session.specs.declared.result.ClientSessionResult.TheVariants.{RaisedEvent, UnhandleableMessageReceived}
-use Rattle.session.specs.declared.result.Outcome.{Outcome}
 use Rattle.session.specs.declared.result.Outcome.TheVariants.{One}
 use Rattle.session.proofs.StepLaws.{comes-to, quiet-goes}
-
--- a body that was written fitted, and has that length; one that wasn't didn't fit
-pub done-length : {old b exit : List ℕ} {w : Wrote} {n : ℕ} → Written old b exit w → w ≡ Done n → n ≡ length b
-unfolding answer
-done-length {old} {b} {w = w} {n} h d =
-    by_cases (ltb (length old) (length b))
-    (λ y. absurd (let e : w ≡ NoSpace = h.answered ∙ rw y in let z : ◌≡◌ {A = ℕ} 0 1 = cc in omega arith))
-    (λ f. let e : w ≡ Done (length b) = h.answered ∙ rw f in cc)
-
-done-fits : {old b exit : List ℕ} {w : Wrote} {n : ℕ} → Written old b exit w → w ≡ Done n → ltb (length old) (length b) ≡ false
-unfolding answer
-done-fits {old} {b} {w = w} {n} h d =
-    by_cases (ltb (length old) (length b))
-    (λ y. absurd (let e : w ≡ NoSpace = h.answered ∙ rw y in let z : ◌≡◌ {A = ℕ} 0 1 = cc in omega arith))
-    (λ f. f)
-
-short-fits : {old b exit : List ℕ} {w : Wrote} → Written old b exit w → w ≡ NoSpace → ltb (length old) (length b) ≡ true
-unfolding answer
-short-fits {old} {b} {w = w} h d =
-    by_cases (ltb (length old) (length b))
-    (λ y. y)
-    (λ f. absurd (let e : w ≡ Done (length b) = h.answered ∙ rw f in let z : ◌≡◌ {A = ℕ} 0 1 = cc in omega arith))
 
 module _ {s : ClientSession} {old : List ℕ} {r : Called} where
   -- turned away with a request closed
@@ -67,24 +45,20 @@ module _ {s : ClientSession} {old : List ℕ} {r : Called} where
 
   -- an event alone
   pub raised-goes : {after : ClientSession} {e : ClientSessionEvent}
-      → r ≡ record { outcome = One (RaisedEvent e); session = after } → Comes s (go (one (raises e)) after) old r old
+      → r ≡ record { outcome = Ok (One (RaisedEvent e)); session = after } → Comes s (go (one (raises e)) after) old r old
   unfolding fitted in_turn sent_by bodies outcome_of
   raised-goes {after} {e} q =
-      comes-to (record { outcome = One (RaisedEvent e); session = after; output = old }) (rw (le-ltb (length old) 0 (omega arith))) q refl
+      comes-to (record { outcome = Ok (One (RaisedEvent e)); session = after; output = old }) (rw (le-ltb (length old) 0 (omega arith))) q refl
 
   -- a message that isn't handled
   pub unhandled-goes : {after : ClientSession} {k : ℕ}
-      → r ≡ record { outcome = One (UnhandleableMessageReceived k); session = after } → Comes s (go (one (unhandled k)) after) old r old
+      → r ≡ record { outcome = Ok (One (UnhandleableMessageReceived k)); session = after } → Comes s (go (one (unhandled k)) after) old r old
   unfolding fitted in_turn sent_by bodies outcome_of
   unhandled-goes {after} {k} q =
-      comes-to (record { outcome = One (UnhandleableMessageReceived k); session = after; output = old }) (rw (le-ltb (length old) 0 (omega arith))) q refl
+      comes-to (record { outcome = Ok (One (UnhandleableMessageReceived k)); session = after; output = old }) (rw (le-ltb (length old) 0 (omega arith))) q refl
 
   pub closed_after : {e : ClientSessionError} {a after : ClientSession} → a ≡ after → r ≡ refused_with a e → Comes s (closing e after) old r old
   closed_after f q = rw (← f) (closed-away q)
-
-  -- a session after that is known under another name
-  pub as-after : {rs : Results} {a after : ClientSession} {exit : List ℕ} → a ≡ after → Comes s (go rs a) old r exit → Comes s (go rs after) old r exit
-  as-after e h = rw (← e) h
 
   -- nothing, and the session after
   pub quiet-after : {a after : ClientSession} → a ≡ after → r ≡ quiet a → Comes s (go nothing after) old r old
@@ -92,13 +66,13 @@ module _ {s : ClientSession} {old : List ℕ} {r : Called} where
 
   -- an event, and the session after
   pub raised-after : {a after : ClientSession} {e : ClientSessionEvent}
-      → a ≡ after → r ≡ record { outcome = One (RaisedEvent e); session = a } → Comes s (go (one (raises e)) after) old r old
+      → a ≡ after → r ≡ record { outcome = Ok (One (RaisedEvent e)); session = a } → Comes s (go (one (raises e)) after) old r old
   raised-after e q = rw (← e) (raised-goes q)
 
   -- a message on the active stream, or on another one
   module _ (clock : RtmpTimestamp) (b : List ℕ) (x : StreamNumber) (e : ClientSessionEvent) {t : Bool} where
     pub on-active : t ≡ is_active s.progress.active x → t ≡ true
-        → r ≡ record { outcome = One (RaisedEvent e); session = s } → Comes s (if_active s clock b x e) old r old
+        → r ≡ record { outcome = Ok (One (RaisedEvent e)); session = s } → Comes s (if_active s clock b x e) old r old
     on-active f h q = let g : is_active s.progress.active x ≡ true = sym f ∙ h in rw g (raised-goes q)
 
     pub on_other : t ≡ is_active s.progress.active x → t ≡ false → r ≡ quiet s → Comes s (if_active s clock b x e) old r old
@@ -113,15 +87,28 @@ module _ {s : ClientSession} {old : List ℕ} {r : Called} where
     pub others_in : (x : StreamNumber) {d : DataMessage} → d ≡ said.Other → Comes s (go nothing s) old r exit → Comes s (data_in s clock b x d) old r exit
     others_in x e h = rw e h
 
-    pub notice-is : {w n v : OnStatus} → n ≡ w → n ≡ v → Comes s (noticed s clock b v) old r exit → Comes s (noticed s clock b w) old r exit
+    pub notice-is : {w n v : Option OnStatus} → n ≡ w → n ≡ v → Comes s (noticed s clock b v) old r exit → Comes s (noticed s clock b w) old r exit
     notice-is f e h = rw (← f, e) h
 
     pub command-is : (k : Command) {n v : CommandName} → n ≡ v → Comes s (command_of s clock b k v) old r exit → Comes s (command_of s clock b k n) old r exit
     command-is k e h = rw e h
 
     pub message-is : (k : ℕ) (t : RtmpTimestamp) (x : StreamNumber) {m v : RtmpMessage}
-        → m ≡ v → Comes s (on_message s clock b k t x v) old r exit → Comes s (on_message s clock b k t x m) old r exit
+        → m ≡ v → Comes s (on_message s clock b k t x (Ok v)) old r exit → Comes s (on_message s clock b k t x (Ok m)) old r exit
     message-is k t x e h = rw e h
+
+    pub read-is : (k : ℕ) (t : RtmpTimestamp) (x : StreamNumber) {m v : Result RtmpMessage Malformed}
+        → m ≡ v → Comes s (on_message s clock b k t x v) old r exit → Comes s (on_message s clock b k t x m) old r exit
+    read-is k t x e h = rw e h
+
+    -- a message that the session doesn't handle
+    pub unhandled-is : (k : ℕ) (t : RtmpTimestamp) (x : StreamNumber) {m : RtmpMessage}
+        → (m ≡ message.Unknown) ⊎ (((n : ℕ) × (m ≡ message.Abort n)) ⊎ ((n : ℕ) × (l : PeerBandwidthLimitType) × (m ≡ message.SetPeerBandwidth n l)))
+        → Comes s (go (one (unhandled k)) s) old r exit → Comes s (on_message s clock b k t x (Ok m)) old r exit
+    unfolding on_message
+    unhandled-is k t x (inl e) h = rw e h
+    unhandled-is k t x (inr (inl (n, e))) h = rw e h
+    unhandled-is k t x (inr (inr (n, l, e))) h = rw e h
 
     -- sound by its type, and else a picture
     module _ (k : ℕ) (t : RtmpTimestamp) (x : StreamNumber) where
@@ -137,18 +124,16 @@ module _ {s : ClientSession} {old : List ℕ} {r : Called} where
       unfolding on_message decode placed
       picture-is e h = rw e h
 
+    -- an event that the session doesn't handle
+    pub control_quiet : (e : UserControlEvent) → ((t : RtmpTimestamp) → e ≢ event.PingRequest t) → ((t : RtmpTimestamp) → e ≢ event.PingResponse t)
+        → Comes s (go nothing s) old r exit → Comes s (control_in s clock b e) old r exit
+    control_quiet (event.PingRequest t) f g h = absurd (f t refl)
+    control_quiet (event.PingResponse t) f g h = absurd (g t refl)
+    control_quiet (event.StreamBegin x) f g h = h
+    control_quiet (event.StreamEof x) f g h = h
+    control_quiet (event.StreamDry x) f g h = h
+    control_quiet (event.SetBufferLength x n) f g h = h
+    control_quiet (event.StreamIsRecorded x) f g h = h
+
     pub control-is : {e v : UserControlEvent} → e ≡ v → Comes s (control_in s clock b v) old r exit → Comes s (control_in s clock b e) old r exit
     control-is e h = rw e h
-
-  -- whatever goes out, written by one writer; or no space for it
-  pub goes_short : {rs : Results} {after : ClientSession} {exit : List ℕ} {w : Wrote}
-      → Written old (output rs) exit w → w ≡ NoSpace → r ≡ refused_with s Space → Comes s (go rs after) old r exit
-  unfolding fitted left
-  goes_short h d q = let f = short-fits h d in comes-to (turned Space s old) (rw f) q (rw (h.list, f))
-
-  pub goes_done : {rs : Results} {a after : ClientSession} {o : Outcome} {exit : List ℕ} {w : Wrote} {n : ℕ}
-      → Written old (output rs) exit w → w ≡ Done n → a ≡ after → o ≡ outcome_of rs → r ≡ record { outcome = o; session = a } → Comes s (go rs after) old r exit
-  unfolding fitted left
-  goes_done {rs} {after = after} h d e o q =
-      let f = done-fits h d in
-      comes-to (record { outcome = outcome_of rs; session = after; output = output rs ++ drop (length (output rs)) old }) (rw f) (rw (← o, ← e) q) (rw (h.list, f))

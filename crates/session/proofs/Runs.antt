@@ -1,6 +1,6 @@
 -- Each row of the table of runs holds, by computation.
 -- Assumes nothing.
-use Rattle.std.proofs.Common.{◌≡◌, ℕ, ◌+◌, cond, List, [], ◌∷◌, map, set, replicate, refl, ap, ◌∙◌}
+use Rattle.std.proofs.Common.{◌≡◌, ℕ, ◌+◌, cond, List, [], ◌∷◌, map, set, replicate, refl, ap, ◌∙◌, Some}
 use mathlib.Core.List.{Memᴰ}
 use lib.Ieee.{of_bits, to_bits, of_int, round, to_unsigned}
 use Rattle.octets.specs.Parse.{field}
@@ -8,11 +8,12 @@ use Rattle.octets.specs.BigEndian.{uint, digits}
 use Rattle.octets.specs.Compare.{same}
 use Rattle.octets.specs.Utf8.{any_row, octets, utf8}
 use Rattle.numbers.specs.Numbers.{narrowed}
-use Rattle.amf0.specs.Decode.{marker_of, text_of, name_of, properties, values, content, value, to_end}
+use Rattle.amf0.specs.Decode.{marker_of, marker, text_of, name_of, properties, values, content, value, to_end}
 use Rattle.amf0.specs.Encode.{text_bytes, encode}
 use Rattle.amf0.specs.Lookup.{last_of, properties_of, properties_at}
-use Rattle.amf0.specs.Places.{text_kind, kind_after, kind_at, text_found, text_of_property, stretch}
-use Rattle.messages.specs.Incoming.{limit_of, bandwidth_of, event_of, user_control_of, text_only, number_only, command_of, after_zero, data_of, decode}
+use Rattle.amf0.specs.Places.{text_place, kind_after, kind_at, text_found, text_of_property, stretch}
+use Rattle.messages.specs.Incoming.{bandwidth_of, event_of, user_control_of, text_only, number_only, command_of, after_zero, data_of, decode}
+use Rattle.messages.specs.Numbers.{limit_type}
 use Rattle.messages.specs.Metadata.{field_kind, metadata_in}
 use Rattle.messages.specs.Notice.{code_is, code_of}
 use Rattle.messages.specs.Places.{name_of as command_name, argument_of, first_of, data_at, placed}
@@ -25,7 +26,6 @@ use Rattle.requests.specs.Texts.{fits, text_of as stored_text, text_sound, store
 use Rattle.requests.specs.declared.outstanding_transaction.OutstandingTransaction.{OutstandingTransaction}
 use Rattle.requests.specs.declared.outstanding_transaction.OutstandingTransaction.TheVariants.{ConnectionRequested, CreateStream}
 use Rattle.requests.specs.declared.outstanding_transaction.TransactionPurpose.TheVariants.{PlayRequest, PublishRequest}
-use Rattle.requests.specs.declared.place.Slot.TheVariants.{Open}
 use Rattle.requests.specs.declared.table.Requests.{Requests}
 use Rattle.session.specs.Calls.{Call, connect, play, publish, stop_playback, stop_publishing, ping, picture, sound, metadata, bytes, message, plain, sends, one}
 use Rattle.session.specs.Outcomes.{in_turn, sent_by, bodies, outcome_of}
@@ -42,7 +42,7 @@ use Rattle.session.specs.declared.record.ClientSession.{ClientSession}
 module _ (s : ClientSession) (clock : RtmpTimestamp) where
   abbrev asked_first : Requests → OutstandingTransaction → List ℕ → Requests
   asked_first r k t =
-      record { next = r.next + 1; places = set r.places (first_free r.places) (record { slot = Open (record { 0 = r.next }) k; text = stored t }) }
+      record { next = r.next + 1; places = set r.places (first_free r.places) (record { request = Some (record { 0 = r.next }, k); text = stored t }) }
 
   asked-first : (r : Requests) (k : OutstandingTransaction) (t : List ℕ) → asked r k t ≡ asked_first r k t
   unfolding asked put
@@ -117,7 +117,7 @@ shown-first (run start o ls g l) = rw (played-first start.session ls)
 -- ---- the table
 
 computed : map shown_first rows ≡ map stated_by rows
-unfolding played_first field uint digits same any_row octets utf8 narrowed marker_of text_of name_of properties values content value to_end text_bytes encode last_of properties_of properties_at text_kind kind_after kind_at text_found text_of_property stretch limit_of bandwidth_of event_of user_control_of text_only number_only command_of after_zero data_of decode field_kind metadata_in code_is code_of command_name argument_of first_of data_at placed connect_body create_stream_body delete_stream_body play_body publish_body control_body whole_prop rate_prop flag_prop text_prop metadata_props metadata_body open_count lookup without first_free has_number place_sound places_sound none requests_sound closed fits stored_text text_sound stored in_turn sent_by bodies outcome_of default_config texts_sound is_session fresh open_of in_order stop published ping_plan count on_message plan fitted of_bits to_bits of_int round to_unsigned
+unfolding played_first field uint digits same any_row octets utf8 narrowed marker_of marker text_of name_of properties values content value to_end text_bytes encode last_of properties_of properties_at text_place kind_after kind_at text_found text_of_property stretch limit_type bandwidth_of event_of user_control_of text_only number_only command_of after_zero data_of decode field_kind metadata_in code_is code_of command_name argument_of first_of data_at placed connect_body create_stream_body delete_stream_body play_body publish_body control_body whole_prop rate_prop flag_prop text_prop metadata_props metadata_body open_count lookup without first_free has_number place_sound places_sound none requests_sound closed fits stored_text text_sound stored in_turn sent_by bodies outcome_of default_config texts_sound is_session fresh open_of in_order stop published ping_plan count on_message plan fitted of_bits to_bits of_int round to_unsigned
 computed = refl
 
 each : (rs : List Run) → map shown_first rs ≡ map stated_by rs → (r : Run) → Memᴰ r rs → shown_by r ≡ stated_by r

@@ -1,24 +1,26 @@
 -- Requests: what taking a number and a place answered, as facts of the open requests, and what the plan of a request comes to by them.
 -- Assumes nothing.
+use Rattle.std.specs.Prelude.{Result, Ok, Err, IsErrAnd}
 use Rattle.std.proofs.Common.{◌≡◌, ℕ, ◌^◌, ◌<◌, true, false, not, List, length, ap, ◌∙◌, arith, leb-true}
-use Rattle.octets.specs.Output.{Written}
-use Rattle.octets.specs.declared.output.Wrote.{Wrote}
 use Rattle.messages.specs.declared.ids.RtmpTimestamp.{RtmpTimestamp}
 use Rattle.messages.specs.declared.ids.TransactionNumber.{TransactionNumber}
 use Rattle.requests.proofs.BoolLaws.{by_cases, and_left}
 use Rattle.requests.specs.Texts.{fits}
-use Rattle.requests.specs.Table.{spent, eight_open, asked, take_of}
+use Rattle.requests.specs.Table.{spent, eight_open, asked, Taken, take_of}
 use Rattle.requests.specs.declared.outstanding_transaction.OutstandingTransaction.{OutstandingTransaction}
 use Rattle.requests.specs.declared.table.Requests.{Requests}
-use Rattle.requests.specs.declared.table.TakeAnswer.TheVariants.{Given, Spent, EightOpen}
-use Rattle.requests.specs.declared.table.Taken.{Taken}
+use Rattle.requests.specs.declared.table.TakeError.{TakeError}
+use Rattle.requests.specs.declared.table.TakeError.TheVariants as take
 use Rattle.session.specs.Record.{with_requests}
-use Rattle.session.specs.Plan.{Check, in_order, request}
-use Rattle.session.specs.Comes.{Comes, refused_with, sent_as}
+use Rattle.session.specs.Calls.{plain, sends, one}
+use Rattle.session.specs.Plan.{Check, go, in_order, request}
+use Rattle.session.specs.Comes.{Comes, called, refused_with, take_refusal}
+use Rattle.session.specs.declared.errors.ClientSessionError.{ClientSessionError}
 use Rattle.session.specs.declared.errors.ClientSessionError.TheVariants as error
 use Rattle.session.specs.declared.record.Called.{Called}
 use Rattle.session.specs.declared.record.ClientSession.{ClientSession}
-use Rattle.session.proofs.StepLaws.{away, sent-goes}
+use Rattle.session.specs.declared.result.Outcome.{Outcome}
+use Rattle.session.proofs.StepLaws.{err_is, away, as-after}
 
 -- a text that fits has a length of 16 bits
 pub fits_16 : (t : List ℕ) → fits t ≡ true → length t < 2 ^ 16
@@ -26,13 +28,13 @@ unfolding fits
 fits_16 t e = let h = leb-true (length t) 255 (and_left _ _ e) in omega arith
 
 module _ (q : Requests) (k : OutstandingTransaction) (t : List ℕ) where
-  pub when-spent : (take_of q k t).answer ≡ Spent → spent q ≡ true
+  pub when-spent : (take_of q k t).answer ≡ Err take.Spent → spent q ≡ true
   unfolding take_of
   when-spent a =
       by_cases (spent q) (λ y. y)
       (λ n. by_cases (eight_open q) (λ y. let b = rw (n, y) at a in cc) (λ m. let b = rw (n, m) at a in cc))
 
-  pub when-eight : (take_of q k t).answer ≡ EightOpen → (spent q ≡ false) × (eight_open q ≡ true)
+  pub when-eight : (take_of q k t).answer ≡ Err take.EightOpen → (spent q ≡ false) × (eight_open q ≡ true)
   unfolding take_of
   when-eight a =
       by_cases (spent q) (λ y. let b = rw y at a in (cc, cc))
@@ -45,7 +47,7 @@ module _ (q : Requests) (k : OutstandingTransaction) (t : List ℕ) where
     pub number : n.0 ≡ q.next
     pub table : (take_of q k t).requests ≡ asked q k t
 
-  pub when-given : {n : TransactionNumber} → (take_of q k t).answer ≡ Given n → Took n
+  pub when-given : {n : TransactionNumber} → (take_of q k t).answer ≡ Ok n → Took n
   unfolding take_of
   when-given a =
       by_cases (spent q) (λ y. let b = rw y at a in record { left = cc; room = cc; number = cc; table = cc })
@@ -65,25 +67,25 @@ module _ {s : ClientSession} (clock : RtmpTimestamp) (own : Check) (kind : Outst
   asks-long body h l q = rw (h, l) (away q)
 
   module _ {taken : Taken} (h : own.when ≡ false) (l : not (fits t) ≡ false) (e : taken ≡ take_of s.requests kind t) where
-    pub asks-spent : (body : List ℕ)
-        → taken.answer ≡ Spent → r ≡ refused_with s error.Spent → Comes s (request s clock own kind t body) old r old
+    asks_refused : (body : List ℕ) (x : TakeError)
+        → taken.answer ≡ Err x → r ≡ refused_with s (take_refusal x) → Comes s (request s clock own kind t body) old r old
     unfolding request in_order
-    asks-spent body a q = rw (h, l, when-spent s.requests kind t (rw e at a)) (away q)
-
-    pub asks-ninth : (body : List ℕ)
-        → taken.answer ≡ EightOpen → r ≡ refused_with s error.EightOpen → Comes s (request s clock own kind t body) old r old
-    unfolding request in_order
-    asks-ninth body a q = let f = when-eight s.requests kind t (rw e at a) in rw (h, l, f.0, f.1) (away q)
+    asks_refused body take.Spent a q = rw (h, l, when-spent s.requests kind t (rw e at a)) (away q)
+    asks_refused body take.EightOpen a q = let f = when-eight s.requests kind t (rw e at a) in rw (h, l, f.0, f.1) (away q)
 
     -- the body is that of the number which is due next
-    pub asks-given : (body : ℕ → List ℕ) {n : TransactionNumber} {after : ClientSession} {w : Wrote} {exit : List ℕ}
-        → taken.answer ≡ Given n
-        → after ≡ with_requests s taken.requests
-        → Written old (body n.0) exit w
-        → r ≡ sent_as s after 20 clock (record { 0 = 0 }) false w
+    pub asks-given : (body : ℕ → List ℕ) {n : TransactionNumber} {exit : List ℕ}
+        → taken.answer ≡ Ok n
+        → Comes s (go (one (sends (plain 20 clock (body n.0)))) (with_requests s taken.requests)) old r exit
         → Comes s (request s clock own kind t (body s.requests.next)) old r exit
     unfolding request in_order
-    asks-given body {after = after} a m g q =
+    asks-given body a d =
         let f = when-given s.requests kind t (rw e at a) in
-        let u : after ≡ with_requests s (asked s.requests kind t) = m ∙ ap (with_requests s) (ap (λ x. x.requests) e ∙ f.table) in
-        rw (h, l, f.left, f.room) (sent-goes (rw f.number at g) (rw u at q))
+        let u : taken.requests ≡ asked s.requests kind t = ap (λ x. x.requests) e ∙ f.table in
+        rw (h, l, f.left, f.room) (as-after (ap (with_requests s) u) (rw f.number at d))
+
+-- the refusal that a `?` hands on
+pub asks-none : {s : ClientSession} (clock : RtmpTimestamp) (own : Check) (kind : OutstandingTransaction) (t : List ℕ) {old : List ℕ}
+    {taken : Taken} → own.when ≡ false → not (fits t) ≡ false → taken ≡ take_of s.requests kind t → (body : List ℕ) {x : TakeError} {o : Result Outcome ClientSessionError}
+    → taken.answer ≡ Err x → IsErrAnd o (λ d. d ≡ take_refusal x) → Comes s (request s clock own kind t body) old (called o s) old
+asks-none {s} clock own kind t h l e body a g = asks_refused clock own kind t h l e body _ a (ap (λ y. called y s) (err_is g))

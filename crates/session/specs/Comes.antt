@@ -1,18 +1,19 @@
 -- What the parts of the calls hand back: `Does` at a plan instead of a call, for a record that refusal 13 doesn't meet.
 -- Assumes nothing.
-use Rattle.std.specs.Prelude.{◌≡◌, ℕ, Bool, false, List}
-use Rattle.octets.specs.declared.output.Wrote.{Wrote}
-use Rattle.octets.specs.declared.output.Wrote.TheVariants.{Done, NoSpace}
+use Rattle.std.specs.Prelude.{◌≡◌, ℕ, Bool, false, cond, List, Result, Ok, Err, ⊤, Option, Some, None}
 use Rattle.messages.specs.declared.ids.RtmpTimestamp.{RtmpTimestamp}
 use Rattle.messages.specs.declared.ids.StreamNumber.{StreamNumber}
-use Rattle.session.specs.Plan.{Plan}
+use Rattle.requests.specs.declared.table.TakeError.{TakeError}
+use Rattle.requests.specs.declared.table.TakeError.TheVariants as take
+use Rattle.session.specs.Record.{is_session}
+use Rattle.session.specs.Plan.{Plan, is_publishing}
 use Rattle.session.specs.Step.{fitted}
 use Rattle.session.specs.declared.errors.ClientSessionError.{ClientSessionError}
-use Rattle.session.specs.declared.errors.ClientSessionError.TheVariants.{Space}
+use Rattle.session.specs.declared.errors.ClientSessionError.TheVariants.{SessionInInvalidState, NoKnownActiveStreamIdWhenRequired, EightOpen, Spent, NotASession}
 use Rattle.session.specs.declared.record.Called.{Called}
 use Rattle.session.specs.declared.record.ClientSession.{ClientSession}
-use Rattle.session.specs.declared.result.ClientSessionResult.TheVariants.{OutboundResponse}
-use Rattle.session.specs.declared.result.Outcome.TheVariants.{Refused, Nothing, One}
+use Rattle.session.specs.declared.result.Outcome.{Outcome}
+use Rattle.session.specs.declared.result.Outcome.TheVariants.{Nothing}
 use Rattle.session.specs.declared.result.Packet.{Packet}
 
 pub record Comes (s : ClientSession) (p : Plan) (old : List ℕ) (r : Called) (exit : List ℕ) : Type 0 where
@@ -20,19 +21,38 @@ pub record Comes (s : ClientSession) (p : Plan) (old : List ℕ) (r : Called) (e
   pub hands_back : r.session ≡ (fitted s old p).session
   pub leaves : exit ≡ (fitted s old p).output
 
+-- an outcome beside the session after it
+abbrev pub called : Result Outcome ClientSessionError → ClientSession → Called
+called o s = record { outcome = o; session = s }
+
 -- turned away; an empty success
 abbrev pub refused_with : ClientSession → ClientSessionError → Called
-refused_with s e = record { outcome = Refused e; session = s }
+refused_with s e = called (Err e) s
 
 abbrev pub quiet : ClientSession → Called
-quiet s = record { outcome = Nothing; session = s }
+quiet s = called (Ok Nothing) s
+
+-- refusal 13, or none
+unfoldable pub checked : ClientSession → Result ⊤ ClientSessionError
+checked s = cond (is_session s) (Ok tt) (Err NotASession)
+
+-- the stream to publish on, or the first of refusals 13, 2 and 3
+abbrev pub active_of : Option StreamNumber → Result StreamNumber ClientSessionError
+active_of None = Err NoKnownActiveStreamIdWhenRequired
+active_of (Some x) = Ok x
+
+unfoldable pub stream_of : ClientSession → Result StreamNumber ClientSessionError
+stream_of s =
+    cond (is_session s)
+    (cond (is_publishing s.progress.state) (active_of s.progress.active) (Err (SessionInInvalidState s.progress.state)))
+    (Err NotASession)
 
 -- a message whose body is the first n bytes of the output
 abbrev pub packet_of : ℕ → RtmpTimestamp → StreamNumber → Bool → ℕ → Packet
 packet_of k t x d n =
     record { type_id = k; time = t; stream = x; droppable = d; uncompressed = false; start = 0; len = n }
 
--- that one message and the session after it, or refusal 12 and the session as it was, by what writing the body answered
-abbrev pub sent_as : ClientSession → ClientSession → ℕ → RtmpTimestamp → StreamNumber → Bool → Wrote → Called
-sent_as s after k t x d (Done n) = record { outcome = One (OutboundResponse (packet_of k t x d n)); session = after }
-sent_as s after k t x d NoSpace = refused_with s Space
+-- refusals 11 and 10
+abbrev pub take_refusal : TakeError → ClientSessionError
+take_refusal take.Spent = Spent
+take_refusal take.EightOpen = EightOpen

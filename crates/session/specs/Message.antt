@@ -1,11 +1,11 @@
 -- What a message that came comes to, by what its body says.
 -- Assumes nothing.
-use Rattle.std.specs.Prelude.{ℕ, Bool, true, false, cond, List, [], ◌∷◌, drop, ◌==◌, nat_lt}
-use Rattle.std.proofs.Math.Option.{Option, none, some}
+use Rattle.std.specs.Prelude.{ℕ, Bool, true, false, cond, List, [], ◌∷◌, drop, ◌==◌, nat_lt, Option, Some, None, Result, Ok, Err}
 use Rattle.octets.specs.Compare.{ascii}
 use Rattle.numbers.specs.Numbers.{held}
 use Rattle.amf0.specs.Lookup.{properties_at}
 use Rattle.amf0.specs.Places.{text_of_property}
+use Rattle.amf0.specs.declared.read.Malformed.{Malformed}
 use Rattle.messages.specs.Notice.{code_at}
 use Rattle.messages.specs.Metadata.{metadata_at}
 use Rattle.messages.specs.Numbers.{type_number, set_chunk_size, user_control, window_size, audio, video, amf0_command}
@@ -26,12 +26,13 @@ use Rattle.messages.specs.declared.rtmp_message.UserControlEvent.{UserControlEve
 use Rattle.messages.specs.declared.rtmp_message.UserControlEvent.TheVariants.{StreamBegin, StreamEof, StreamDry, SetBufferLength, StreamIsRecorded, PingRequest, PingResponse}
 use Rattle.bodies.specs.Bodies.{play_body, publish_body, control_body, word_body}
 use Rattle.requests.specs.Texts.{text_of}
-use Rattle.requests.specs.Places.{Request, lookup}
+use Rattle.requests.specs.Places.{lookup}
 use Rattle.requests.specs.Table.{closed}
 use Rattle.requests.specs.declared.outstanding_transaction.OutstandingTransaction.TheVariants.{ConnectionRequested, CreateStream}
 use Rattle.requests.specs.declared.outstanding_transaction.OutstandingTransaction.{OutstandingTransaction}
 use Rattle.requests.specs.declared.outstanding_transaction.TransactionPurpose.{TransactionPurpose}
 use Rattle.requests.specs.declared.outstanding_transaction.TransactionPurpose.TheVariants.{PlayRequest, PublishRequest}
+use Rattle.requests.specs.declared.place.Request.{Request}
 use Rattle.requests.specs.declared.text.Text.{Text}
 use Rattle.session.specs.Record.{with_progress, with_requests, with_link}
 use Rattle.session.specs.Calls.{plain, on_stream, sends, raises, unhandled, Results, nothing, one, two, accepts}
@@ -39,10 +40,7 @@ use Rattle.session.specs.Plan.{Plan, refuse, close, go, in_order, is_play, unles
 use Rattle.session.specs.declared.errors.ClientSessionError.TheVariants.{CreateStreamFailed, CreateStreamResponseHadNoStreamNumber, InvalidOnStatusArguments, InvalidMaxChunkSize, MalformedBody}
 use Rattle.session.specs.declared.events.ClientSessionEvent.{ClientSessionEvent}
 use Rattle.session.specs.declared.events.ClientSessionEvent.TheVariants.{ConnectionRequestRejected, PlaybackRequestAccepted, PublishRequestAccepted, StreamMetadataReceived, VideoDataReceived, AudioDataReceived, UnhandleableAmf0Command, UnknownTransactionResultReceived, UnhandleableOnStatusCode, AcknowledgementReceived, PingResponseReceived}
-use Rattle.session.specs.declared.record.ActiveStream.{ActiveStream}
-use Rattle.session.specs.declared.record.ActiveStream.TheVariants as active
 use Rattle.session.specs.declared.record.ClientSession.{ClientSession}
-use Rattle.session.specs.declared.record.PeerWindow.TheVariants as window
 use Rattle.session.specs.declared.state.ClientState.{ClientState}
 use Rattle.session.specs.declared.state.ClientState.TheVariants.{Disconnected, Connected, PlayRequested, Playing, PublishRequested, Publishing}
 
@@ -62,9 +60,9 @@ is_publish_requested Playing = false
 is_publish_requested PublishRequested = true
 is_publish_requested Publishing = false
 
-abbrev pub is_active : ActiveStream → StreamNumber → Bool
-is_active active.None x = false
-is_active (active.Some a) x = a.0 == x.0
+abbrev pub is_active : Option StreamNumber → StreamNumber → Bool
+is_active None x = false
+is_active (Some a) x = a.0 == x.0
 
 -- sound's type where it is that, and else a picture's
 abbrev pub media_type : ℕ → ℕ
@@ -75,7 +73,14 @@ abbrev pub unknown_reply : Command → ClientSessionEvent
 unknown_reply c = UnknownTransactionResultReceived c.number c.object c.args
 
 abbrev pub other_command : Command → ClientSessionEvent
-other_command c = UnhandleableAmf0Command c.start c.len c.number c.object c.args
+other_command c = UnhandleableAmf0Command c.name_at c.number c.object c.args
+
+-- the stream's number, if the first argument is a Number
+abbrev pub stream_number : Option Argument → Option StreamNumber
+stream_number (Some (argument.Number x)) = Some (record { 0 = held x })
+stream_number (Some argument.Object) = None
+stream_number (Some argument.Other) = None
+stream_number None = None
 
 -- the stage that a grant gives
 abbrev pub requested_stage : TransactionPurpose → ClientState
@@ -84,7 +89,7 @@ requested_stage (PublishRequest t) = PublishRequested
 
 module _ (s : ClientSession) (clock : RtmpTimestamp) (b : List ℕ) where
   -- the session with the request under n closed, at a stage and with an active stream
-  abbrev pub after : ℕ → ClientState → ActiveStream → ClientSession
+  abbrev pub after : ℕ → ClientState → Option StreamNumber → ClientSession
   after n g a = with_progress (with_requests s (closed s.requests n)) g a
 
   abbrev pub after_closing : ℕ → ClientSession
@@ -106,17 +111,15 @@ module _ (s : ClientSession) (clock : RtmpTimestamp) (b : List ℕ) where
       (on_stream (type_number amf0_command) clock x (play_body (text_of key)))
   grant_sends (PublishRequest t) key x = one (sends (on_stream (type_number amf0_command) clock x (publish_body (text_of key) t)))
 
-  abbrev pub granted : ℕ → TransactionPurpose → Text → Argument → Plan
-  granted n p key (argument.Number x) =
-      go (grant_sends p key (record { 0 = held x })) (after n (requested_stage p) (active.Some (record { 0 = held x })))
-  granted n p key argument.Absent = close CreateStreamResponseHadNoStreamNumber (after_closing n)
-  granted n p key argument.Object = close CreateStreamResponseHadNoStreamNumber (after_closing n)
-  granted n p key argument.Other = close CreateStreamResponseHadNoStreamNumber (after_closing n)
+  -- `_result` to an open createStream, by the stream's number
+  abbrev pub granted : ℕ → TransactionPurpose → Text → Option StreamNumber → Plan
+  granted n p key (Some x) = go (grant_sends p key x) (after n (requested_stage p) (Some x))
+  granted n p key None = close CreateStreamResponseHadNoStreamNumber (after_closing n)
 
   -- `_result` to an open request, by its kind
   abbrev pub result_of : Command → ℕ → OutstandingTransaction → Text → Plan
   result_of c n ConnectionRequested t = accepted n
-  result_of c n (CreateStream p) t = granted n p t c.first
+  result_of c n (CreateStream p) t = granted n p t (stream_number c.first)
 
   -- `_error` to an open request
   abbrev pub error_of : Command → ℕ → OutstandingTransaction → Plan
@@ -126,21 +129,21 @@ module _ (s : ClientSession) (clock : RtmpTimestamp) (b : List ℕ) where
 
   -- by the request that is open under the held number, if one is
   abbrev pub result_to : Command → ℕ → Option Request → Plan
-  result_to c n none = go (one (raises (unknown_reply c))) s
-  result_to c n (some q) = result_of c n q.kind q.text
+  result_to c n None = go (one (raises (unknown_reply c))) s
+  result_to c n (Some q) = result_of c n q.kind q.text
 
   abbrev pub error_to : Command → ℕ → Option Request → Plan
-  error_to c n none = go (one (raises (unknown_reply c))) s
-  error_to c n (some q) = error_of c n q.kind
+  error_to c n None = go (one (raises (unknown_reply c))) s
+  error_to c n (Some q) = error_of c n q.kind
 
   -- a notice, by its code
-  abbrev pub noticed : OnStatus → Plan
-  noticed status.PlayStart =
+  abbrev pub noticed : Option OnStatus → Plan
+  noticed (Some status.PlayStart) =
       in_order (unless_stage is_play_requested s ∷ []) (go (one (raises PlaybackRequestAccepted)) (with_progress s Playing s.progress.active))
-  noticed status.PublishStart =
+  noticed (Some status.PublishStart) =
       in_order (unless_stage is_publish_requested s ∷ []) (go (one (raises PublishRequestAccepted)) (with_progress s Publishing s.progress.active))
-  noticed (status.Other start len) = go (one (raises (UnhandleableOnStatusCode start len))) s
-  noticed status.Invalid = refuse InvalidOnStatusArguments
+  noticed (Some (status.Other code)) = go (one (raises (UnhandleableOnStatusCode code))) s
+  noticed None = refuse InvalidOnStatusArguments
 
   abbrev pub command_of : Command → CommandName → Plan
   command_of c name.Result = result_to c (held c.number) (lookup (held c.number) s.requests.places)
@@ -171,24 +174,24 @@ module _ (s : ClientSession) (clock : RtmpTimestamp) (b : List ℕ) where
 
   -- a window applies from the next count on
   abbrev pub window_in : ℕ → Plan
-  window_in n = go nothing (with_link s (record { chunk = s.link.chunk; window = window.Some n; pending = s.link.pending; total = s.link.total }))
+  window_in n = go nothing (with_link s (record { chunk = s.link.chunk; window = Some n; pending = s.link.pending; total = s.link.total }))
 
   abbrev pub chunk_in : ℕ → Plan
   chunk_in n =
       in_order (record { when = nat_lt 2147483647 n; says = InvalidMaxChunkSize } ∷ [])
       (go nothing (with_link s (record { chunk = n; window = s.link.window; pending = s.link.pending; total = s.link.total })))
 
-  -- a message of type k at that time on the stream x
-  unfoldable pub on_message : ℕ → RtmpTimestamp → StreamNumber → RtmpMessage → Plan
-  on_message k t x message.Malformed = refuse MalformedBody
-  on_message k t x message.Unknown = go (one (unhandled k)) s
-  on_message k t x (message.Abort n) = go (one (unhandled k)) s
-  on_message k t x (message.SetPeerBandwidth n l) = go (one (unhandled k)) s
-  on_message k t x (message.Acknowledgement n) = go (one (raises (AcknowledgementReceived n))) s
-  on_message k t x (message.Amf0Command c) = command_of c c.name
-  on_message k t x (message.Amf0Data d) = data_in x d
-  on_message k t x message.AudioData = media_in x (AudioDataReceived t)
-  on_message k t x message.VideoData = media_in x (VideoDataReceived t)
-  on_message k t x (message.SetChunkSize n) = chunk_in n
-  on_message k t x (message.UserControl e) = control_in e
-  on_message k t x (message.WindowAcknowledgement n) = window_in n
+  -- a message of type k at that time on the stream x, by what its body says
+  unfoldable pub on_message : ℕ → RtmpTimestamp → StreamNumber → Result RtmpMessage Malformed → Plan
+  on_message k t x (Err e) = refuse MalformedBody
+  on_message k t x (Ok message.Unknown) = go (one (unhandled k)) s
+  on_message k t x (Ok (message.Abort n)) = go (one (unhandled k)) s
+  on_message k t x (Ok (message.SetPeerBandwidth n l)) = go (one (unhandled k)) s
+  on_message k t x (Ok (message.Acknowledgement n)) = go (one (raises (AcknowledgementReceived n))) s
+  on_message k t x (Ok (message.Amf0Command c)) = command_of c c.name
+  on_message k t x (Ok (message.Amf0Data d)) = data_in x d
+  on_message k t x (Ok message.AudioData) = media_in x (AudioDataReceived t)
+  on_message k t x (Ok message.VideoData) = media_in x (VideoDataReceived t)
+  on_message k t x (Ok (message.SetChunkSize n)) = chunk_in n
+  on_message k t x (Ok (message.UserControl e)) = control_in e
+  on_message k t x (Ok (message.WindowAcknowledgement n)) = window_in n

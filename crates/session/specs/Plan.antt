@@ -1,6 +1,6 @@
 -- What each of the caller's calls comes to, before 13 and 12 are looked at: the refusals in document 01's order, then results and a session.
 -- Assumes nothing.
-use Rattle.std.specs.Prelude.{ℕ, ◌+◌, ◌%◌, ◌^◌, Bool, true, false, cond, not, List, [], ◌∷◌, length, nat_le, nat_lt}
+use Rattle.std.specs.Prelude.{ℕ, ◌+◌, ◌%◌, ◌^◌, Bool, true, false, cond, not, List, [], ◌∷◌, length, nat_le, nat_lt, is_some, Option, Some, None}
 use Rattle.messages.specs.Numbers.{type_number, acknowledgement, user_control, amf0_command}
 use Rattle.messages.specs.declared.ids.RtmpTimestamp.{RtmpTimestamp}
 use Rattle.messages.specs.declared.ids.StreamNumber.{StreamNumber}
@@ -9,15 +9,11 @@ use Rattle.bodies.specs.Bodies.{connect_body, create_stream_body, delete_stream_
 use Rattle.requests.specs.Texts.{fits, text_of}
 use Rattle.requests.specs.Table.{spent, eight_open, asked}
 use Rattle.requests.specs.declared.outstanding_transaction.OutstandingTransaction.{OutstandingTransaction}
-use Rattle.session.specs.Record.{with_progress, with_requests, with_counts}
+use Rattle.session.specs.Record.{url_of, with_progress, with_requests, with_counts}
 use Rattle.session.specs.Calls.{Message, plain, on_stream, sends, Results, nothing, one, pinged}
 use Rattle.session.specs.declared.errors.ClientSessionError.{ClientSessionError}
 use Rattle.session.specs.declared.errors.ClientSessionError.TheVariants.{SessionInInvalidState, NoKnownActiveStreamIdWhenRequired, Length, EightOpen, Spent}
-use Rattle.session.specs.declared.record.ActiveStream.{ActiveStream}
-use Rattle.session.specs.declared.record.ActiveStream.TheVariants as active
 use Rattle.session.specs.declared.record.ClientSession.{ClientSession}
-use Rattle.session.specs.declared.record.PeerWindow.{PeerWindow}
-use Rattle.session.specs.declared.record.PeerWindow.TheVariants as window
 use Rattle.session.specs.declared.state.ClientState.{ClientState}
 use Rattle.session.specs.declared.state.ClientState.TheVariants.{Disconnected, Connected, PlayRequested, Playing, PublishRequested, Publishing}
 
@@ -99,7 +95,7 @@ if_eight_open s = record { when = eight_open s.requests; says = EightOpen }
 -- the bodies of requests under the next number
 abbrev pub connect_next : ClientSession → List ℕ → List ℕ
 connect_next s app =
-    connect_body s.requests.next app (text_of s.config.flash_version) s.config.has_tc_url (text_of s.config.tc_url)
+    connect_body s.requests.next app (text_of s.config.flash_version) (is_some s.config.tc_url) (url_of s.config.tc_url)
 
 abbrev pub create_next : ClientSession → List ℕ
 create_next s = create_stream_body s.requests.next
@@ -112,17 +108,17 @@ module _ (s : ClientSession) (clock : RtmpTimestamp) where
       (go (one (sends (plain (type_number amf0_command) clock body))) (with_requests s (asked s.requests kind t)))
 
   -- a stop at its own two stages
-  abbrev pub stopped : ActiveStream → Plan
-  stopped active.None = go nothing (with_progress s Connected active.None)
-  stopped (active.Some x) = go (one (sends (on_stream (type_number amf0_command) clock x (delete_stream_body x.0)))) (with_progress s Connected active.None)
+  abbrev pub stopped : Option StreamNumber → Plan
+  stopped None = go nothing (with_progress s Connected None)
+  stopped (Some x) = go (one (sends (on_stream (type_number amf0_command) clock x (delete_stream_body x.0)))) (with_progress s Connected None)
 
   unfoldable pub stop : (ClientState → Bool) → Plan
   stop own = cond (own s.progress.state) (stopped s.progress.active) (go nothing s)
 
   -- at Publishing and on the active stream: the check is of what the caller gave, and the message is on that stream
-  abbrev pub published_on : Check → (StreamNumber → Message) → ActiveStream → Plan
-  published_on given message active.None = refuse NoKnownActiveStreamIdWhenRequired
-  published_on given message (active.Some x) = in_order (given ∷ []) (go (one (sends (message x))) s)
+  abbrev pub published_on : Check → (StreamNumber → Message) → Option StreamNumber → Plan
+  published_on given message None = refuse NoKnownActiveStreamIdWhenRequired
+  published_on given message (Some x) = in_order (given ∷ []) (go (one (sends (message x))) s)
 
   unfoldable pub published : Check → (StreamNumber → Message) → Plan
   published given message = in_order (unless_stage is_publishing s ∷ []) (published_on given message s.progress.active)
@@ -135,9 +131,9 @@ module _ (s : ClientSession) (clock : RtmpTimestamp) where
   counted n pending = with_counts s pending ((s.link.total + n) % 2 ^ 64)
 
   -- pending reaches the window: an Acknowledgement of its low 32 bits
-  abbrev pub counted_by : ℕ → PeerWindow → Plan
-  counted_by n window.None = go nothing (counted n s.link.pending)
-  counted_by n (window.Some w) =
+  abbrev pub counted_by : ℕ → Option ℕ → Plan
+  counted_by n None = go nothing (counted n s.link.pending)
+  counted_by n (Some w) =
       cond (nat_le w (s.link.pending + n))
       (go (one (sends (plain (type_number acknowledgement) clock (word_body ((s.link.pending + n) % 2 ^ 32))))) (counted n 0))
       (go nothing (counted n (s.link.pending + n)))

@@ -1,21 +1,20 @@
 -- The session record: what refusal 13 asks of it, and opening.
 -- Assumes nothing.
-use Rattle.std.specs.Prelude.{ℕ, Bool, false, cond, not, ◌&&◌, ◌||◌, [], nat_le}
+use Rattle.std.specs.Prelude.{ℕ, Bool, true, cond, ◌&&◌, List, [], nat_le, Ok, Err, Option, Some, None}
 use Rattle.octets.specs.Compare.{ascii}
-use Rattle.requests.specs.Texts.{text_sound, stored}
+use Rattle.requests.specs.Texts.{text_of, text_sound, stored}
 use Rattle.requests.specs.Table.{none, requests_sound}
 use Rattle.requests.specs.declared.table.Requests.{Requests}
+use Rattle.requests.specs.declared.text.Text.{Text}
 use Rattle.session.specs.declared.config.ClientSessionConfig.{ClientSessionConfig}
 use Rattle.session.specs.declared.errors.ClientSessionError.TheVariants.{Length, InvalidMaxChunkSize}
-use Rattle.session.specs.declared.record.ActiveStream.{ActiveStream}
-use Rattle.session.specs.declared.record.ActiveStream.TheVariants as active
 use Rattle.session.specs.declared.record.Called.{Called}
 use Rattle.session.specs.declared.record.ClientSession.{ClientSession}
 use Rattle.session.specs.declared.record.Link.{Link}
-use Rattle.session.specs.declared.record.PeerWindow.TheVariants as window
-use Rattle.session.specs.declared.result.Outcome.TheVariants.{Refused, Nothing}
+use Rattle.session.specs.declared.result.Outcome.TheVariants.{Nothing}
 use Rattle.session.specs.declared.state.ClientState.{ClientState}
 use Rattle.session.specs.declared.state.ClientState.TheVariants.{Disconnected}
+use Rattle.messages.specs.declared.ids.StreamNumber.{StreamNumber}
 
 -- the Rust's default settings
 unfoldable pub default_config : ClientSessionConfig
@@ -25,13 +24,21 @@ default_config =
       playback_buffer_length_ms = 2000;
       window_ack_size = 2500000;
       chunk_size = 4096;
-      has_tc_url = false;
-      tc_url = stored [];
+      tc_url = None;
     }
 
 -- the texts of the settings; a tcUrl counts if one is configured
+abbrev pub url_sound : Option Text → Bool
+url_sound None = true
+url_sound (Some t) = text_sound t
+
 unfoldable pub texts_sound : ClientSessionConfig → Bool
-texts_sound c = text_sound c.flash_version && (not c.has_tc_url || text_sound c.tc_url)
+texts_sound c = text_sound c.flash_version && url_sound c.tc_url
+
+-- the tcUrl's bytes, if one is configured
+abbrev pub url_of : Option Text → List ℕ
+url_of None = []
+url_of (Some t) = text_of t
 
 -- a chunk size that refusal 7 doesn't meet
 abbrev pub chunk_sound : ℕ → Bool
@@ -46,9 +53,9 @@ unfoldable pub fresh : ClientSessionConfig → ClientSession
 fresh c =
     record {
       config = c;
-      progress = record { state = Disconnected; active = active.None };
+      progress = record { state = Disconnected; active = None };
       requests = none;
-      link = record { chunk = 128; window = window.None; pending = 0; total = 0 };
+      link = record { chunk = 128; window = None; pending = 0; total = 0 };
     }
 
 -- Opening: refusal 9, then 7. The record handed back with a refusal is no session, since its settings are what 13 meets.
@@ -56,12 +63,12 @@ unfoldable pub open_of : ClientSessionConfig → Called
 open_of c =
     cond (texts_sound c)
     (cond (chunk_sound c.chunk_size)
-    (record { outcome = Nothing; session = fresh c })
-    (record { outcome = Refused InvalidMaxChunkSize; session = fresh c }))
-    (record { outcome = Refused Length; session = fresh c })
+    (record { outcome = Ok Nothing; session = fresh c })
+    (record { outcome = Err InvalidMaxChunkSize; session = fresh c }))
+    (record { outcome = Err Length; session = fresh c })
 
 -- the record with one group changed
-abbrev pub with_progress : ClientSession → ClientState → ActiveStream → ClientSession
+abbrev pub with_progress : ClientSession → ClientState → Option StreamNumber → ClientSession
 with_progress s g a = record { config = s.config; progress = record { state = g; active = a }; requests = s.requests; link = s.link }
 
 abbrev pub with_requests : ClientSession → Requests → ClientSession

@@ -1,6 +1,6 @@
 -- What a call does: 13 in front, the plan of the call, and one test of the space.
 -- Assumes nothing.
-use Rattle.std.specs.Prelude.{ℕ, false, cond, not, List, [], ◌∷◌, length, nat_lt}
+use Rattle.std.specs.Prelude.{ℕ, false, cond, not, List, [], ◌∷◌, length, nat_lt, Result, Ok, Err}
 use Rattle.amf0.specs.Places.{stretch}
 use Rattle.messages.specs.Incoming.{decode}
 use Rattle.messages.specs.Numbers.{type_number, audio, video, amf0_data}
@@ -18,7 +18,6 @@ use Rattle.session.specs.declared.errors.ClientSessionError.{ClientSessionError}
 use Rattle.session.specs.declared.errors.ClientSessionError.TheVariants.{CantConnectWhileAlreadyConnected, Space, NotASession}
 use Rattle.session.specs.declared.record.ClientSession.{ClientSession}
 use Rattle.session.specs.declared.result.Outcome.{Outcome}
-use Rattle.session.specs.declared.result.Outcome.TheVariants.{Refused}
 
 -- connect at another stage than Disconnected is refusal 1
 abbrev pub unless_disconnected : ClientSession → Check
@@ -43,13 +42,13 @@ plan s clock (message k t x b) = in_order (if_large b ∷ []) (on_message s cloc
 
 -- what a call answers, the session it hands back, and the lent output as it leaves it
 pub record Stepped : Type 0 where
-  pub outcome : Outcome
+  pub outcome : Result Outcome ClientSessionError
   pub session : ClientSession
   pub output : List ℕ
 
 -- turned away: no output byte is written
 abbrev pub away : ClientSessionError → ClientSession → List ℕ → Stepped
-away e s old = record { outcome = Refused e; session = s; output = old }
+away e s old = record { outcome = Err e; session = s; output = old }
 
 -- refusal 12 last: the output is shorter than all bodies together
 unfoldable pub fitted : ClientSession → List ℕ → Plan → Stepped
@@ -58,7 +57,7 @@ fitted s old (close e after) = away e after old
 fitted s old (go rs after) =
     cond (nat_lt (length old) (length (output rs)))
     (away Space s old)
-    (record { outcome = outcome_of rs; session = after; output = written old rs })
+    (record { outcome = Ok (outcome_of rs); session = after; output = written old rs })
 
 unfoldable pub step : ClientSession → RtmpTimestamp → Call → List ℕ → Stepped
 step s clock c old = cond (is_session s) (fitted s old (plan s clock c)) (away NotASession s old)

@@ -1,26 +1,22 @@
-// The calls: each consumes the session and hands back the new one. Every call looks first whether the record is a session, then at the
-// conditions of document 01's refusals in its order, and last at the space, once.
-ghost use Rattle.std.specs.Prelude.{◌≡◌, false};
-ghost use Rattle.session.specs.Record.{is_session, open_of, with_counts};
+// The calls: each consumes the session and hands back the new one. What a call does is a function that borrows the session, so that each
+// refusal is an `Err`: it looks first whether the record is a session, then at the conditions of document 01's refusals in its order, and last
+// at the space, once.
+ghost use Rattle.std.specs.Prelude.{◌≡◌, Bool, false};
+ghost use Rattle.session.specs.Record.{open_of};
 ghost use Rattle.session.specs.Calls.{Call, connect, play, publish, stop_playback, stop_publishing, ping, picture, sound, metadata, bytes};
-ghost use Rattle.session.specs.Plan.{request, unless_stage, is_connected, create_next, stopped as stopped_of, published, if_large};
+ghost use Rattle.session.specs.Plan.{request, unless_stage, is_connected, create_next, stop, published, if_large};
 ghost use Rattle.session.specs.Step.{plan};
-ghost use Rattle.session.specs.Comes.{Comes};
+ghost use Rattle.session.specs.Comes.{called, stream_of};
 ghost use Rattle.session.specs.Contract.{Does};
 
 use crate::config::ClientSessionConfig;
 use crate::errors::ClientSessionError;
-use crate::record::{ActiveStream, Called, ClientSession, Link, PeerWindow, Progress};
-use crate::result::{ClientSessionResult, Outcome};
+use crate::record::{Called, ClientSession, Link, Progress};
+use crate::result::Outcome;
+use crate::sending;
 use crate::state::ClientState;
-use crate::{sending, stages};
 use messages::{PublishRequestType, RtmpTimestamp, StreamMetadata, StreamNumber};
-use octets::Wrote;
-use requests::{OutstandingTransaction, Requests, TakeAnswer, TransactionPurpose};
-
-// What a count comes to, then pending and total after it.
-#[derive(Clone, Copy)]
-struct Counted(Outcome, u32, u64);
+use requests::{OutstandingTransaction, Requests, TransactionPurpose};
 
 impl ClientSession {
     // Opening.
@@ -31,111 +27,96 @@ impl ClientSession {
             config,
             progress: Progress {
                 state: ClientState::Disconnected,
-                active: ActiveStream::None,
+                active: None,
             },
             requests: Requests::new(),
             link: Link {
                 chunk: 128,
-                window: PeerWindow::None,
+                window: None,
                 pending: 0,
                 total: 0,
             },
         };
         if !config.texts_sound() {
-            return session.refused(ClientSessionError::Length);
+            let outcome = Err(ClientSessionError::Length);
+            return Called { outcome, session };
         }
         if 2147483647 < config.chunk_size {
-            return session.refused(ClientSessionError::InvalidMaxChunkSize);
+            let outcome = Err(ClientSessionError::InvalidMaxChunkSize);
+            return Called { outcome, session };
         }
-        session.quiet()
+        let outcome = Ok(Outcome::Nothing);
+        Called { outcome, session }
     }
 
-    pub fn request_connection(self, clock: RtmpTimestamp, app: &[u8], out: &mut [u8]) -> Called
-        ensures { Does self clock (connect app.now) out.old result out.new }
+    fn connect(
+        &mut self,
+        clock: RtmpTimestamp,
+        app: &[u8],
+        out: &mut [u8],
+    ) -> Result<Outcome, ClientSessionError>
+        ensures { Does self.old clock (connect app.now) out.old (called result self.new) out.new }
     {
-        if !self.is_session() {
-            return self.refused(ClientSessionError::NotASession);
-        }
-        let progress = self.progress;
-        let state = progress.state;
-        if !stages::is_disconnected(state) {
-            return self.refused(ClientSessionError::CantConnectWhileAlreadyConnected);
+        self.checked()?;
+        if !self.progress.state.is_disconnected() {
+            return Err(ClientSessionError::CantConnectWhileAlreadyConnected);
         }
         if !requests::fits(app) {
-            return self.refused(ClientSessionError::Length);
+            return Err(ClientSessionError::Length);
         }
-        let requests = self.requests;
-        let taken = requests.take(OutstandingTransaction::ConnectionRequested, app);
-        let answer = taken.answer;
-        let after = taken.requests;
-        match answer {
-            TakeAnswer::Spent => self.refused(ClientSessionError::Spent),
-            TakeAnswer::EightOpen => self.refused(ClientSessionError::EightOpen),
-            TakeAnswer::Given(number) => {
-                let config = self.config;
-                let wrote = sending::connect(config, number, app, out);
-                self.sent(
-                    self.with_requests(after),
-                    20,
-                    clock,
-                    StreamNumber(0),
-                    false,
-                    wrote,
-                )
-            }
+        let mut requests = self.requests;
+        let number = requests.take(OutstandingTransaction::ConnectionRequested, app)?;
+        let len = sending::connect(&self.config, number, app, out)?;
+        self.requests = requests;
+        Ok(sending::sent(20, clock, StreamNumber(0), false, len))
+    }
+
+    pub fn request_connection(mut self, clock: RtmpTimestamp, app: &[u8], out: &mut [u8]) -> Called
+        ensures { Does self clock (connect app.now) out.old result out.new }
+    {
+        let outcome = self.connect(clock, app, out);
+        Called {
+            outcome,
+            session: self,
         }
     }
 
     // Play and publish: a createStream for that purpose.
     fn request_stream(
-        self,
+        &mut self,
         clock: RtmpTimestamp,
         purpose: TransactionPurpose,
         key: &[u8],
         out: &mut [u8],
-    ) -> Called
-        ensures { Comes self (request self clock (unless_stage is_connected self) (OutstandingTransaction.CreateStream purpose) key.now (create_next self)) out.old result out.new }
+    ) -> Result<Outcome, ClientSessionError>
+        ensures { (c : Call) → plan self.old clock c ≡ request self.old clock (unless_stage is_connected self.old) (OutstandingTransaction.CreateStream purpose) key.now (create_next self.old) → Does self.old clock c out.old (called result self.new) out.new }
     {
-        let progress = self.progress;
-        let state = progress.state;
-        if !stages::is_connected(state) {
-            return self.refused(ClientSessionError::SessionInInvalidState(state));
+        self.checked()?;
+        if !self.progress.state.is_connected() {
+            return Err(ClientSessionError::SessionInInvalidState(self.progress.state));
         }
         if !requests::fits(key) {
-            return self.refused(ClientSessionError::Length);
+            return Err(ClientSessionError::Length);
         }
-        let requests = self.requests;
-        let taken = requests.take(OutstandingTransaction::CreateStream(purpose), key);
-        let answer = taken.answer;
-        let after = taken.requests;
-        match answer {
-            TakeAnswer::Spent => self.refused(ClientSessionError::Spent),
-            TakeAnswer::EightOpen => self.refused(ClientSessionError::EightOpen),
-            TakeAnswer::Given(number) => {
-                let wrote = bodies::write_create_stream(out, number);
-                self.sent(
-                    self.with_requests(after),
-                    20,
-                    clock,
-                    StreamNumber(0),
-                    false,
-                    wrote,
-                )
-            }
-        }
+        let mut requests = self.requests;
+        let number = requests.take(OutstandingTransaction::CreateStream(purpose), key)?;
+        let len = bodies::write_create_stream(out, number)?;
+        self.requests = requests;
+        Ok(sending::sent(20, clock, StreamNumber(0), false, len))
     }
 
-    pub fn request_playback(self, clock: RtmpTimestamp, key: &[u8], out: &mut [u8]) -> Called
+    pub fn request_playback(mut self, clock: RtmpTimestamp, key: &[u8], out: &mut [u8]) -> Called
         ensures { Does self clock (play key.now) out.old result out.new }
     {
-        if !self.is_session() {
-            return self.refused(ClientSessionError::NotASession);
+        let outcome = self.request_stream(clock, TransactionPurpose::PlayRequest, key, out);
+        Called {
+            outcome,
+            session: self,
         }
-        self.request_stream(clock, TransactionPurpose::PlayRequest, key, out)
     }
 
     pub fn request_publishing(
-        self,
+        mut self,
         clock: RtmpTimestamp,
         key: &[u8],
         publish_type: PublishRequestType,
@@ -143,109 +124,114 @@ impl ClientSession {
     ) -> Called
         ensures { Does self clock (publish key.now publish_type) out.old result out.new }
     {
-        if !self.is_session() {
-            return self.refused(ClientSessionError::NotASession);
+        let purpose = TransactionPurpose::PublishRequest(publish_type);
+        let outcome = self.request_stream(clock, purpose, key, out);
+        Called {
+            outcome,
+            session: self,
         }
-        self.request_stream(
-            clock,
-            TransactionPurpose::PublishRequest(publish_type),
-            key,
-            out,
-        )
     }
 
-    // A stop at one of its own two stages.
-    fn stopped(self, clock: RtmpTimestamp, out: &mut [u8]) -> Called
-        ensures { Comes self (stopped_of self clock self.progress.active) out.old result out.new }
+    // A stop: `own` says whether the stage is one of its two.
+    fn stopped(
+        &mut self,
+        clock: RtmpTimestamp,
+        own: bool,
+        out: &mut [u8],
+    ) -> Result<Outcome, ClientSessionError>
+        ensures { (c : Call) (at : ClientState → Bool) → own ≡ at self.old.progress.state → plan self.old clock c ≡ stop self.old clock at → Does self.old clock c out.old (called result self.new) out.new }
     {
-        let progress = self.progress;
-        let active = progress.active;
-        let after = self.with_progress(Progress {
-            state: ClientState::Connected,
-            active: ActiveStream::None,
-        });
-        match active {
-            ActiveStream::None => after.quiet(),
-            ActiveStream::Some(stream) => {
-                let wrote = bodies::write_delete_stream(out, stream);
-                self.sent(after, 20, clock, stream, false, wrote)
-            }
+        self.checked()?;
+        if !own {
+            return Ok(Outcome::Nothing);
         }
+        let outcome = match self.progress.active {
+            None => Outcome::Nothing,
+            Some(stream) => {
+                let len = bodies::write_delete_stream(out, stream)?;
+                sending::sent(20, clock, stream, false, len)
+            }
+        };
+        self.progress = Progress {
+            state: ClientState::Connected,
+            active: None,
+        };
+        Ok(outcome)
     }
 
-    pub fn stop_playback(self, clock: RtmpTimestamp, out: &mut [u8]) -> Called
+    pub fn stop_playback(mut self, clock: RtmpTimestamp, out: &mut [u8]) -> Called
         ensures { Does self clock stop_playback out.old result out.new }
     {
-        if !self.is_session() {
-            return self.refused(ClientSessionError::NotASession);
+        let own = self.progress.state.is_play();
+        let outcome = self.stopped(clock, own, out);
+        Called {
+            outcome,
+            session: self,
         }
-        let progress = self.progress;
-        let state = progress.state;
-        if stages::is_play(state) {
-            return self.stopped(clock, out);
-        }
-        self.quiet()
     }
 
-    pub fn stop_publishing(self, clock: RtmpTimestamp, out: &mut [u8]) -> Called
+    pub fn stop_publishing(mut self, clock: RtmpTimestamp, out: &mut [u8]) -> Called
         ensures { Does self clock stop_publishing out.old result out.new }
     {
-        if !self.is_session() {
-            return self.refused(ClientSessionError::NotASession);
+        let own = self.progress.state.is_publish();
+        let outcome = self.stopped(clock, own, out);
+        Called {
+            outcome,
+            session: self,
         }
-        let progress = self.progress;
-        let state = progress.state;
-        if stages::is_publish(state) {
-            return self.stopped(clock, out);
-        }
-        self.quiet()
+    }
+
+    fn ping(&self, clock: RtmpTimestamp, out: &mut [u8]) -> Result<Outcome, ClientSessionError>
+        ensures { Does self.now clock ping out.old (called result self.now) out.new }
+    {
+        self.checked()?;
+        let len = bodies::write_ping_request(out, clock)?;
+        let request = sending::packet(4, clock, StreamNumber(0), false, len);
+        Ok(Outcome::Pinged(request, clock))
     }
 
     // A ping request that carries the clock, which is handed back.
     pub fn send_ping_request(self, clock: RtmpTimestamp, out: &mut [u8]) -> Called
         ensures { Does self clock ping out.old result out.new }
     {
-        if !self.is_session() {
-            return self.refused(ClientSessionError::NotASession);
-        }
-        match bodies::write_ping_request(out, clock) {
-            Wrote::NoSpace => self.refused(ClientSessionError::Space),
-            Wrote::Done(len) => self.pinged(
-                sending::packet(4, clock, StreamNumber(0), false, len),
-                clock,
-            ),
+        let outcome = self.ping(clock, out);
+        Called {
+            outcome,
+            session: self,
         }
     }
 
-    // What pictures and sound come to: the caller's time and droppable flag, and the session as it was. It is handed back in one place,
-    // by the caller, so that the compiler leaves it where it lies.
+    // The stream to publish on.
+    fn stream(&self) -> Result<StreamNumber, ClientSessionError>
+        ensures { result ≡ stream_of self.now }
+    {
+        self.checked()?;
+        if !self.progress.state.is_publishing() {
+            return Err(ClientSessionError::SessionInInvalidState(self.progress.state));
+        }
+        match self.progress.active {
+            None => Err(ClientSessionError::NoKnownActiveStreamIdWhenRequired),
+            Some(stream) => Ok(stream),
+        }
+    }
+
+    // Pictures and sound, with the caller's time and droppable flag.
     fn publish_data(
-        self,
+        &self,
         type_id: u8,
         data: &[u8],
         time: RtmpTimestamp,
         droppable: bool,
         out: &mut [u8],
-    ) -> Outcome
-        ensures { (clock : RtmpTimestamp) (c : Call) → plan self clock c ≡ published self clock (if_large «data».now) (λ x. record { type_id = type_id; time = time; stream = x; droppable = droppable; uncompressed = false; body = «data».now }) → Does self clock c out.old (record { outcome = result; session = self }) out.new }
+    ) -> Result<Outcome, ClientSessionError>
+        ensures { (clock : RtmpTimestamp) (c : Call) → plan self.now clock c ≡ published self.now clock (if_large «data».now) (λ x. record { type_id = type_id; time = time; stream = x; droppable = droppable; uncompressed = false; body = «data».now }) → Does self.now clock c out.old (called result self.now) out.new }
     {
-        if !self.is_session() {
-            return Outcome::Refused(ClientSessionError::NotASession);
-        }
-        let progress = self.progress;
-        let state = progress.state;
-        if !stages::is_publishing(state) {
-            return Outcome::Refused(ClientSessionError::SessionInInvalidState(state));
-        }
-        let active = progress.active;
-        let ActiveStream::Some(stream) = active else {
-            return Outcome::Refused(ClientSessionError::NoKnownActiveStreamIdWhenRequired);
-        };
+        let stream = self.stream()?;
         if 16777215 < data.len() {
-            return Outcome::Refused(ClientSessionError::Length);
+            return Err(ClientSessionError::Length);
         }
-        let wrote = octets::write_bytes(out, data);
-        sending::outcome(type_id, time, stream, droppable, wrote)
+        let len = octets::write_bytes(out, data)?;
+        Ok(sending::sent(type_id, time, stream, droppable, len))
     }
 
     pub fn publish_video_data(
@@ -259,7 +245,10 @@ impl ClientSession {
         ensures { Does self clock (picture «data».now time droppable) out.old result out.new }
     {
         let outcome = self.publish_data(9, data, time, droppable, out);
-        self.with_outcome(outcome)
+        Called {
+            outcome,
+            session: self,
+        }
     }
 
     pub fn publish_audio_data(
@@ -273,7 +262,27 @@ impl ClientSession {
         ensures { Does self clock (sound «data».now time droppable) out.old result out.new }
     {
         let outcome = self.publish_data(8, data, time, droppable, out);
-        self.with_outcome(outcome)
+        Called {
+            outcome,
+            session: self,
+        }
+    }
+
+    fn publish_fields(
+        &self,
+        clock: RtmpTimestamp,
+        fields: StreamMetadata,
+        text: &[u8],
+        out: &mut [u8],
+    ) -> Result<Outcome, ClientSessionError>
+        ensures { Does self.now clock (metadata fields text.now) out.old (called result self.now) out.new }
+    {
+        let stream = self.stream()?;
+        if !sending::encoder_fits(fields.encoder, text) {
+            return Err(ClientSessionError::Length);
+        }
+        let len = bodies::write_metadata(out, fields, text)?;
+        Ok(sending::sent(18, clock, stream, false, len))
     }
 
     // The encoder's text lies in `text`.
@@ -286,67 +295,48 @@ impl ClientSession {
     ) -> Called
         ensures { Does self clock (metadata fields text.now) out.old result out.new }
     {
-        if !self.is_session() {
-            return self.refused(ClientSessionError::NotASession);
+        let outcome = self.publish_fields(clock, fields, text, out);
+        Called {
+            outcome,
+            session: self,
         }
-        let progress = self.progress;
-        let state = progress.state;
-        if !stages::is_publishing(state) {
-            return self.refused(ClientSessionError::SessionInInvalidState(state));
-        }
-        let active = progress.active;
-        let ActiveStream::Some(stream) = active else {
-            return self.refused(ClientSessionError::NoKnownActiveStreamIdWhenRequired);
-        };
-        let encoder = fields.encoder;
-        if !sending::encoder_fits(encoder, text) {
-            return self.refused(ClientSessionError::Length);
-        }
-        let wrote = bodies::write_metadata(out, fields, text);
-        self.sent(self, 18, clock, stream, false, wrote)
     }
 
-    // What a count comes to, and the link's counts after it; the rest of the session stays.
-    fn count(self, clock: RtmpTimestamp, count: u32, out: &mut [u8]) -> Counted
-        ensures { Does self clock (bytes count) out.old (record { outcome = result.0; session = with_counts self result.1 result.2 }) out.new }
+    fn count(
+        &mut self,
+        clock: RtmpTimestamp,
+        count: u32,
+        out: &mut [u8],
+    ) -> Result<Outcome, ClientSessionError>
+        ensures { Does self.old clock (bytes count) out.old (called result self.new) out.new }
     {
-        let link = self.link;
-        if !self.is_plain() {
-            if !self.is_session() {
-                let away = Outcome::Refused(ClientSessionError::NotASession);
-                return Counted(away, link.pending, link.total);
-            }
-        }
-        let window = link.window;
-        let total = std::num::wrapping_add_u64(link.total, count as u64);
-        let PeerWindow::Some(size) = window else {
-            return Counted(Outcome::Nothing, link.pending, total);
+        self.checked()?;
+        let total = self.link.total.wrapping_add(count as u64);
+        let Some(size) = self.link.window else {
+            self.link.total = total;
+            return Ok(Outcome::Nothing);
         };
-        let sum = (link.pending as u64) + (count as u64);
-        let low = std::num::wrapping_add_u32(link.pending, count);
+        let sum = (self.link.pending as u64) + (count as u64);
+        let low = self.link.pending.wrapping_add(count);
         if sum < size as u64 {
-            return Counted(Outcome::Nothing, low, total);
+            self.link.pending = low;
+            self.link.total = total;
+            return Ok(Outcome::Nothing);
         }
-        match bodies::write_acknowledgement(out, low) {
-            Wrote::NoSpace => {
-                let away = Outcome::Refused(ClientSessionError::Space);
-                Counted(away, link.pending, link.total)
-            }
-            Wrote::Done(len) => {
-                let packet = sending::packet(3, clock, StreamNumber(0), false, len);
-                let sent = Outcome::One(ClientSessionResult::OutboundResponse(packet));
-                Counted(sent, 0, total)
-            }
-        }
+        let len = bodies::write_acknowledgement(out, low)?;
+        self.link.pending = 0;
+        self.link.total = total;
+        Ok(sending::sent(3, clock, StreamNumber(0), false, len))
     }
 
     // A count of bytes that came, before the messages that they brought.
-    pub fn handle_bytes(self, clock: RtmpTimestamp, count: u32, out: &mut [u8]) -> Called
+    pub fn handle_bytes(mut self, clock: RtmpTimestamp, count: u32, out: &mut [u8]) -> Called
         ensures { Does self clock (bytes count) out.old result out.new }
     {
-        let counted = self.count(clock, count, out);
-        let outcome = counted.0;
-        let after = self.counted(counted.1, counted.2);
-        after.with_outcome(outcome)
+        let outcome = self.count(clock, count, out);
+        Called {
+            outcome,
+            session: self,
+        }
     }
 }

@@ -5,33 +5,21 @@ ghost use Rattle.session.specs.Record.{default_config, texts_sound};
 
 use requests::Text;
 
-// tc_url counts only where has_tc_url says that one is configured; it may be empty.
-#[derive(Clone, Copy)]
+// A tc_url that is configured may be empty.
+#[derive(Clone, Copy, Debug, PartialEq, Eq)]
 pub struct ClientSessionConfig {
     pub flash_version: Text,
     pub playback_buffer_length_ms: u32,
     pub window_ack_size: u32,
     pub chunk_size: u32,
-    pub has_tc_url: bool,
-    pub tc_url: Text,
+    pub tc_url: Option<Text>,
 }
 
 // Whether the text is plainly sound: it has at most sixteen bytes, and the sixteen that lie there are below 80. No array is copied for that.
-pub(crate) fn is_short(text: Text) -> bool
-    ensures { result ≡ true → text_sound text ≡ true }
+pub(crate) fn is_short(text: &Text) -> bool
+    ensures { result ≡ true → text_sound text.now ≡ true }
 {
-    if 16 < text.len {
-        return false;
-    }
-    let bytes = text.bytes;
-    let mut i: usize = 0;
-    while i < 16 {
-        if 0x7f < bytes[i] {
-            return false;
-        }
-        i += 1;
-    }
-    true
+    text.len <= 16 && text.bytes[..16].iter().all(|b| *b < 0x80)
 }
 
 impl ClientSessionConfig {
@@ -43,23 +31,18 @@ impl ClientSessionConfig {
             playback_buffer_length_ms: 2000,
             window_ack_size: 2500000,
             chunk_size: 4096,
-            has_tc_url: false,
-            tc_url: Text::new(b""),
+            tc_url: None,
         }
     }
 
     // Whether the texts are such as opening accepts; a tc_url counts if one is configured.
-    pub(crate) fn texts_sound(self) -> bool
-        ensures { result ≡ texts_sound self }
+    pub(crate) fn texts_sound(&self) -> bool
+        ensures { result ≡ texts_sound self.now }
     {
-        let flash = self.flash_version;
-        if !flash.sound() {
-            return false;
-        }
-        if self.has_tc_url {
-            let url = self.tc_url;
-            return url.sound();
-        }
-        true
+        self.flash_version.sound()
+            && match &self.tc_url {
+                None => true,
+                Some(url) => url.sound(),
+            }
     }
 }

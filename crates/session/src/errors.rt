@@ -1,7 +1,14 @@
 // Why a call was turned away. specs/Numbers.antt gives each the number of document 01's table.
-use crate::state::ClientState;
+ghost use Rattle.std.specs.Prelude.{◌≡◌};
+ghost use Rattle.session.specs.Comes.{take_refusal};
+ghost use Rattle.session.specs.declared.errors.ClientSessionError.TheVariants.{MalformedBody as malformed_body, Space as space};
 
-#[derive(Clone, Copy)]
+use crate::state::ClientState;
+use amf0::Malformed;
+use octets::NoSpace;
+use requests::TakeError;
+
+#[derive(Clone, Copy, Debug, PartialEq, Eq)]
 pub enum ClientSessionError {
     // 1
     CantConnectWhileAlreadyConnected,
@@ -29,4 +36,31 @@ pub enum ClientSessionError {
     Space,
     // 13
     NotASession,
+}
+
+impl From<Malformed> for ClientSessionError {
+    ghost from_gives = { λ m e. e ≡ malformed_body };
+
+    fn from(_malformed: Malformed) -> ClientSessionError {
+        ClientSessionError::MalformedBody
+    }
+}
+
+impl From<TakeError> for ClientSessionError {
+    ghost from_gives = { λ t e. e ≡ take_refusal t };
+
+    fn from(error: TakeError) -> ClientSessionError {
+        match error {
+            TakeError::Spent => ClientSessionError::Spent,
+            TakeError::EightOpen => ClientSessionError::EightOpen,
+        }
+    }
+}
+
+impl From<NoSpace> for ClientSessionError {
+    ghost from_gives = { λ n e. e ≡ space };
+
+    fn from(_no_space: NoSpace) -> ClientSessionError {
+        ClientSessionError::Space
+    }
 }

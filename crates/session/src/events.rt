@@ -1,12 +1,12 @@
 // Events. Texts and values are places in the message's body; a picture's or a sound's data is the whole body.
-use amf0::TextAt;
 use messages::{RtmpTimestamp, StreamMetadata};
+use octets::Span;
 
-#[derive(Clone, Copy)]
+#[derive(Clone, Copy, Debug, PartialEq)]
 pub enum ClientSessionEvent {
     ConnectionRequestAccepted,
-    // the description, Absent where there is none
-    ConnectionRequestRejected(TextAt),
+    // the description, if there is one
+    ConnectionRequestRejected(Option<Span>),
     PlaybackRequestAccepted,
     PublishRequestAccepted,
     StreamMetadataReceived(StreamMetadata),
@@ -14,8 +14,7 @@ pub enum ClientSessionEvent {
     AudioDataReceived(RtmpTimestamp),
     // the place of the name; the pattern of the Number; where the object and the arguments start
     UnhandleableAmf0Command {
-        start: usize,
-        len: usize,
+        name: Span,
         number: u64,
         object: usize,
         args: usize,
@@ -26,10 +25,7 @@ pub enum ClientSessionEvent {
         args: usize,
     },
     // the place of the code
-    UnhandleableOnStatusCode {
-        start: usize,
-        len: usize,
-    },
+    UnhandleableOnStatusCode(Span),
     AcknowledgementReceived(u32),
     PingResponseReceived(RtmpTimestamp),
 }

@@ -11,12 +11,11 @@ mod record;
 mod replies;
 mod result;
 mod sending;
-mod stages;
 mod state;
 
 pub use config::ClientSessionConfig;
 pub use errors::ClientSessionError;
 pub use events::ClientSessionEvent;
-pub use record::{ActiveStream, Called, ClientSession, Link, PeerWindow, Progress};
+pub use record::{Called, ClientSession, Link, Progress};
 pub use result::{ClientSessionResult, Outcome, Packet};
 pub use state::ClientState;

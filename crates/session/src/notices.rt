@@ -1,61 +1,61 @@
 // Notices: an onStatus message with a code.
-ghost use Rattle.std.specs.Prelude.{◌≡◌, ℕ, List, drop};
+ghost use Rattle.std.specs.Prelude.{◌≡◌, ℕ, Bool, List, [], ◌∷◌, drop};
 ghost use Rattle.messages.specs.Notice.{code_at};
+ghost use Rattle.session.specs.Calls.{raises, one};
+ghost use Rattle.session.specs.Plan.{go, in_order, unless_stage};
+ghost use Rattle.session.specs.Record.{with_progress};
 ghost use Rattle.session.specs.Message.{noticed};
-ghost use Rattle.session.specs.Comes.{Comes};
+ghost use Rattle.session.specs.Comes.{Comes, called};
 
 use crate::errors::ClientSessionError;
 use crate::events::ClientSessionEvent;
-use crate::record::{Called, ClientSession, Progress};
-use crate::stages;
+use crate::record::ClientSession;
+use crate::result::{Outcome, raised};
 use crate::state::ClientState;
 use messages::{OnStatus, RtmpTimestamp};
 
 impl ClientSession {
-    fn handle_play_start(self) -> Called
-        ensures { (clock : RtmpTimestamp) (b old : List ℕ) → Comes self (noticed self clock b OnStatus.PlayStart) old result old }
+    // A Start notice: `awaited` says whether the stage is the one that waits for it, and `state` is the stage after it.
+    fn started(
+        &mut self,
+        awaited: bool,
+        state: ClientState,
+        event: ClientSessionEvent,
+    ) -> Result<Outcome, ClientSessionError>
+        ensures { (at : ClientState → Bool) (old : List ℕ) → awaited ≡ at self.old.progress.state → Comes self.old (in_order (unless_stage at self.old ∷ []) (go (one (raises event)) (with_progress self.old state self.old.progress.active))) old (called result self.new) old }
     {
-        let progress = self.progress;
-        let state = progress.state;
-        if !stages::is_play_requested(state) {
-            return self.refused(ClientSessionError::SessionInInvalidState(state));
+        if !awaited {
+            return Err(ClientSessionError::SessionInInvalidState(self.progress.state));
         }
-        let active = progress.active;
-        let after = self.with_progress(Progress {
-            state: ClientState::Playing,
-            active,
-        });
-        after.raised(ClientSessionEvent::PlaybackRequestAccepted)
-    }
-
-    fn handle_publish_start(self) -> Called
-        ensures { (clock : RtmpTimestamp) (b old : List ℕ) → Comes self (noticed self clock b OnStatus.PublishStart) old result old }
-    {
-        let progress = self.progress;
-        let state = progress.state;
-        if !stages::is_publish_requested(state) {
-            return self.refused(ClientSessionError::SessionInInvalidState(state));
-        }
-        let active = progress.active;
-        let after = self.with_progress(Progress {
-            state: ClientState::Publishing,
-            active,
-        });
-        after.raised(ClientSessionEvent::PublishRequestAccepted)
+        self.progress.state = state;
+        Ok(raised(event))
     }
 
     // The code stands in the value at `args`, the first argument.
-    pub(crate) fn handle_on_status_command(self, args: usize, body: &[u8]) -> Called
-        ensures { (clock : RtmpTimestamp) (old : List ℕ) → Comes self (noticed self clock body.now (code_at body.now (drop args body.now))) old result old }
+    pub(crate) fn handle_on_status_command(
+        &mut self,
+        args: usize,
+        body: &[u8],
+    ) -> Result<Outcome, ClientSessionError>
+        ensures { (clock : RtmpTimestamp) (old : List ℕ) → Comes self.old (noticed self.old clock body.now (code_at body.now (drop args body.now))) old (called result self.new) old }
     {
-        let notice = messages::on_status_code(body, args);
-        match notice {
-            OnStatus::PlayStart => self.handle_play_start(),
-            OnStatus::PublishStart => self.handle_publish_start(),
-            OnStatus::Other { start, len } => {
-                self.raised(ClientSessionEvent::UnhandleableOnStatusCode { start, len })
+        let Some(code) = messages::on_status_code(body, args) else {
+            return Err(ClientSessionError::InvalidOnStatusArguments);
+        };
+        match code {
+            OnStatus::PlayStart => {
+                let awaited = self.progress.state.is_play_requested();
+                let event = ClientSessionEvent::PlaybackRequestAccepted;
+                self.started(awaited, ClientState::Playing, event)
             }
-            OnStatus::Invalid => self.refused(ClientSessionError::InvalidOnStatusArguments),
+            OnStatus::PublishStart => {
+                let awaited = self.progress.state.is_publish_requested();
+                let event = ClientSessionEvent::PublishRequestAccepted;
+                self.started(awaited, ClientState::Publishing, event)
+            }
+            OnStatus::Other(place) => {
+                Ok(raised(ClientSessionEvent::UnhandleableOnStatusCode(place)))
+            }
         }
     }
 }

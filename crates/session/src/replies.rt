@@ -4,21 +4,22 @@ ghost use Rattle.numbers.specs.Numbers.{held};
 ghost use Rattle.octets.specs.Output.{Written};
 ghost use Rattle.requests.specs.Texts.{text_sound};
 ghost use Rattle.requests.specs.Places.{lookup};
+ghost use Rattle.requests.specs.Table.{closed};
 ghost use Rattle.session.specs.Outcomes.{output, outcome_of};
-ghost use Rattle.session.specs.Plan.{go};
-ghost use Rattle.session.specs.Record.{is_session, with_progress};
-ghost use Rattle.session.specs.Message.{after_closing, accepted as accepted_of, grant_sends, requested_stage, granted as granted_of, result_to, error_to};
-ghost use Rattle.session.specs.Comes.{Comes, packet_of};
+ghost use Rattle.session.specs.Record.{is_session};
+ghost use Rattle.session.specs.Message.{accepted as accepted_of, stream_number, grant_sends, requested_stage, granted as granted_of, unknown_reply, result_to, error_to};
+ghost use Rattle.session.specs.Comes.{Comes, called, packet_of};
+ghost use Rattle.session.specs.declared.result.ClientSessionResult.{ClientSessionResult};
 
 use crate::errors::ClientSessionError;
 use crate::events::ClientSessionEvent;
-use crate::record::{ActiveStream, Called, ClientSession, Progress};
-use crate::result::{ClientSessionResult, Outcome, Packet};
+use crate::record::{ClientSession, Progress};
+use crate::result::{Outcome, Packet, raised};
 use crate::sending;
 use crate::state::ClientState;
 use messages::{Argument, Command, RtmpTimestamp, StreamNumber, TransactionNumber};
-use octets::Wrote;
-use requests::{CloseAnswer, OutstandingTransaction, Text, TransactionPurpose};
+use octets::NoSpace;
+use requests::{OutstandingTransaction, Requests, Text, TransactionPurpose};
 
 // The results of a connect that was accepted: a window size of 4 bytes, the event, and a chunk size of 4 bytes after the window size.
 fn accepted_results(clock: RtmpTimestamp) -> Outcome
@@ -40,20 +41,20 @@ fn accepted_results(clock: RtmpTimestamp) -> Outcome
 fn write_grant(
     ms: u32,
     purpose: TransactionPurpose,
-    key: Text,
+    key: &Text,
     stream: StreamNumber,
     out: &mut [u8],
-) -> Wrote
-    requires { text_sound key ≡ true }
-    ensures { (s : ClientSession) (clock : RtmpTimestamp) (b : List ℕ) → s.config.playback_buffer_length_ms ≡ ms → Written out.old (output (grant_sends s clock b purpose key stream)) out.new result }
+) -> Result<usize, NoSpace>
+    requires { text_sound key.now ≡ true }
+    ensures { (s : ClientSession) (clock : RtmpTimestamp) (b : List ℕ) → s.config.playback_buffer_length_ms ≡ ms → Written out.old (output (grant_sends s clock b purpose key.now stream)) out.new result }
 {
-    let bytes = key.bytes;
-    let n = key.len;
     match purpose {
-        TransactionPurpose::PlayRequest => bodies::write_play(out, stream, ms, &bytes[..n]),
-        TransactionPurpose::PublishRequest(kind) => {
-            bodies::write_publish(out, &bytes[..n], kind)
-        }
+        TransactionPurpose::PlayRequest => bodies::write_play(out, stream, ms, key.as_slice()),
+        TransactionPurpose::PublishRequest(kind) => bodies::write_publish(
+            out,
+            key.as_slice(),
+            kind,
+        ),
     }
 }
 
@@ -80,10 +81,17 @@ fn grant_results(
             };
             Outcome::Two(sending::packet(4, clock, StreamNumber(0), false, 10), play)
         }
-        TransactionPurpose::PublishRequest(_) => {
-            let publish = sending::packet(20, clock, stream, false, len);
-            Outcome::One(ClientSessionResult::OutboundResponse(publish))
-        }
+        TransactionPurpose::PublishRequest(_) => { sending::sent(20, clock, stream, false, len) }
+    }
+}
+
+// The stream's number, if the first argument is a Number.
+fn stream_number(first: Option<Argument>) -> Option<StreamNumber>
+    ensures { result ≡ stream_number first }
+{
+    match first? {
+        Argument::Number(bits) => Some(StreamNumber(numbers::hold(bits))),
+        _ => None,
     }
 }
 
@@ -97,140 +105,102 @@ fn requested_stage(purpose: TransactionPurpose) -> ClientState
     }
 }
 
+// A reply that no open request waits for.
+fn unknown_reply(command: Command) -> Outcome
+    ensures { result ≡ Outcome.One (ClientSessionResult.RaisedEvent (unknown_reply command)) }
+{
+    raised(ClientSessionEvent::UnknownTransactionResultReceived {
+        number: command.number,
+        object: command.object,
+        args: command.args,
+    })
+}
+
 impl ClientSession {
-    // `_result` to a connect. `closed` is the session with that request closed.
-    fn accepted(self, closed: ClientSession, clock: RtmpTimestamp, out: &mut [u8]) -> Called
-        ensures { (b : List ℕ) (n : ℕ) → closed ≡ after_closing self clock b n → Comes self (accepted_of self clock b n) out.old result out.new }
-    {
-        let config = self.config;
-        let wrote = bodies::write_sizes(out, config.window_ack_size, config.chunk_size);
-        let Wrote::Done(_) = wrote else {
-            return self.refused(ClientSessionError::Space);
-        };
-        let progress = self.progress;
-        let active = progress.active;
-        let after = closed.with_progress(Progress {
-            state: ClientState::Connected,
-            active,
-        });
-        after.with_outcome(accepted_results(clock))
-    }
-
-    // A stream that was created, for what it was asked for.
-    fn granted_on(
-        self,
-        closed: ClientSession,
+    // `_result` to a connect. `rest` has the requests with that one closed.
+    fn accepted(
+        &mut self,
+        rest: Requests,
         clock: RtmpTimestamp,
-        purpose: TransactionPurpose,
-        key: Text,
-        stream: StreamNumber,
         out: &mut [u8],
-    ) -> Called
-        requires { text_sound key ≡ true }
-        ensures { (b : List ℕ) → Comes self (go (grant_sends self clock b purpose key stream) (with_progress closed (requested_stage purpose) (ActiveStream.Some stream))) out.old result out.new }
+    ) -> Result<Outcome, ClientSessionError>
+        ensures { (b : List ℕ) (n : ℕ) → rest ≡ closed self.old.requests n → Comes self.old (accepted_of self.old clock b n) out.old (called result self.new) out.new }
     {
-        let config = self.config;
-        let ms = config.playback_buffer_length_ms;
-        let wrote = write_grant(ms, purpose, key, stream, out);
-        let Wrote::Done(len) = wrote else {
-            return self.refused(ClientSessionError::Space);
-        };
-        let state = requested_stage(purpose);
-        let after = closed.with_progress(Progress {
-            state,
-            active: ActiveStream::Some(stream),
-        });
-        after.with_outcome(grant_results(clock, purpose, stream, len))
+        bodies::write_sizes(out, self.config.window_ack_size, self.config.chunk_size)?;
+        self.requests = rest;
+        self.progress.state = ClientState::Connected;
+        Ok(accepted_results(clock))
     }
 
-    // `_result` to a createStream: its first argument is the stream's number. `closed` is the session with that request closed.
+    // `_result` to a createStream, by the stream's number. `rest` has the requests with that one closed.
     fn granted(
-        self,
-        closed: ClientSession,
+        &mut self,
+        rest: Requests,
         clock: RtmpTimestamp,
         purpose: TransactionPurpose,
-        key: Text,
-        first: Argument,
+        key: &Text,
+        stream: Option<StreamNumber>,
         out: &mut [u8],
-    ) -> Called
-        requires { text_sound key ≡ true }
-        ensures { (b : List ℕ) (n : ℕ) → closed ≡ after_closing self clock b n → Comes self (granted_of self clock b n purpose key first) out.old result out.new }
+    ) -> Result<Outcome, ClientSessionError>
+        requires { text_sound key.now ≡ true }
+        ensures { (b : List ℕ) (n : ℕ) → rest ≡ closed self.old.requests n → Comes self.old (granted_of self.old clock b n purpose key.now stream) out.old (called result self.new) out.new }
     {
-        match first {
-            Argument::Number(bits) => {
-                let stream = StreamNumber(numbers::hold(bits));
-                self.granted_on(closed, clock, purpose, key, stream, out)
-            }
-            Argument::Absent => {
-                closed.refused(ClientSessionError::CreateStreamResponseHadNoStreamNumber)
-            }
-            Argument::Object => {
-                closed.refused(ClientSessionError::CreateStreamResponseHadNoStreamNumber)
-            }
-            Argument::Other => {
-                closed.refused(ClientSessionError::CreateStreamResponseHadNoStreamNumber)
-            }
-        }
+        let Some(stream) = stream else {
+            self.requests = rest;
+            return Err(ClientSessionError::CreateStreamResponseHadNoStreamNumber);
+        };
+        let ms = self.config.playback_buffer_length_ms;
+        let len = write_grant(ms, purpose, key, stream, out)?;
+        self.requests = rest;
+        self.progress = Progress {
+            state: requested_stage(purpose),
+            active: Some(stream),
+        };
+        Ok(grant_results(clock, purpose, stream, len))
     }
 
     // `_result`.
     pub(crate) fn handle_success_result(
-        self,
+        &mut self,
         clock: RtmpTimestamp,
         command: Command,
         out: &mut [u8],
-    ) -> Called
-        requires { is_session self ≡ true }
-        ensures { (b : List ℕ) → Comes self (result_to self clock b command (held command.number) (lookup (held command.number) self.requests.places)) out.old result out.new }
+    ) -> Result<Outcome, ClientSessionError>
+        requires { is_session self.old ≡ true }
+        ensures { (b : List ℕ) → Comes self.old (result_to self.old clock b command (held command.number) (lookup (held command.number) self.old.requests.places)) out.old (called result self.new) out.new }
     {
         let number = numbers::hold(command.number);
-        let requests = self.requests;
-        let found = requests.close(TransactionNumber(number));
-        let answer = found.answer;
-        let CloseAnswer::Request(kind) = answer else {
-            return self.raised(ClientSessionEvent::UnknownTransactionResultReceived {
-                number: command.number,
-                object: command.object,
-                args: command.args,
-            });
+        let mut rest = self.requests;
+        let Some(request) = rest.close(TransactionNumber(number)) else {
+            return Ok(unknown_reply(command));
         };
-        let rest = found.requests;
-        let closed = self.with_requests(rest);
-        match kind {
-            OutstandingTransaction::ConnectionRequested => self.accepted(closed, clock, out),
+        match request.kind {
+            OutstandingTransaction::ConnectionRequested => self.accepted(rest, clock, out),
             OutstandingTransaction::CreateStream(purpose) => {
-                let key = found.text;
-                let first = command.first;
-                self.granted(closed, clock, purpose, key, first, out)
+                let stream = stream_number(command.first);
+                self.granted(rest, clock, purpose, &request.text, stream, out)
             }
         }
     }
 
     // `_error`.
-    pub(crate) fn handle_failed_result(self, command: Command, body: &[u8]) -> Called
-        ensures { (clock : RtmpTimestamp) (old : List ℕ) → Comes self (error_to self clock body.now command (held command.number) (lookup (held command.number) self.requests.places)) old result old }
+    pub(crate) fn handle_failed_result(
+        &mut self,
+        command: Command,
+        body: &[u8],
+    ) -> Result<Outcome, ClientSessionError>
+        ensures { (clock : RtmpTimestamp) (old : List ℕ) → Comes self.old (error_to self.old clock body.now command (held command.number) (lookup (held command.number) self.old.requests.places)) old (called result self.new) old }
     {
         let number = numbers::hold(command.number);
-        let requests = self.requests;
-        let found = requests.close(TransactionNumber(number));
-        let answer = found.answer;
-        let CloseAnswer::Request(kind) = answer else {
-            return self.raised(ClientSessionEvent::UnknownTransactionResultReceived {
-                number: command.number,
-                object: command.object,
-                args: command.args,
-            });
+        let Some(request) = self.requests.close(TransactionNumber(number)) else {
+            return Ok(unknown_reply(command));
         };
-        let rest = found.requests;
-        let closed = self.with_requests(rest);
-        match kind {
+        match request.kind {
             OutstandingTransaction::ConnectionRequested => {
                 let text = amf0::text_at(body, command.args, b"description");
-                closed.raised(ClientSessionEvent::ConnectionRequestRejected(text))
+                Ok(raised(ClientSessionEvent::ConnectionRequestRejected(text)))
             }
-            OutstandingTransaction::CreateStream(_) => {
-                closed.refused(ClientSessionError::CreateStreamFailed)
-            }
+            OutstandingTransaction::CreateStream(_) => Err(ClientSessionError::CreateStreamFailed),
         }
     }
 }

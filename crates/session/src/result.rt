@@ -1,10 +1,11 @@
 // What a call answers.
-use crate::errors::ClientSessionError;
+ghost use Rattle.std.specs.Prelude.{◌≡◌};
+
 use crate::events::ClientSessionEvent;
 use messages::{RtmpTimestamp, StreamNumber};
 
 // An outbound message. Its body lies in the lent output.
-#[derive(Clone, Copy)]
+#[derive(Clone, Copy, Debug, PartialEq, Eq)]
 pub struct Packet {
     pub type_id: u8,
     pub time: RtmpTimestamp,
@@ -15,7 +16,7 @@ pub struct Packet {
     pub len: usize,
 }
 
-#[derive(Clone, Copy)]
+#[derive(Clone, Copy, Debug, PartialEq)]
 pub enum ClientSessionResult {
     OutboundResponse(Packet),
     RaisedEvent(ClientSessionEvent),
@@ -23,9 +24,9 @@ pub enum ClientSessionResult {
     UnhandleableMessageReceived(u8),
 }
 
-#[derive(Clone, Copy)]
+// What a call that was not turned away answers.
+#[derive(Clone, Copy, Debug, PartialEq)]
 pub enum Outcome {
-    Refused(ClientSessionError),
     Nothing,
     One(ClientSessionResult),
     // two messages
@@ -34,4 +35,11 @@ pub enum Outcome {
     Accepted(Packet, Packet),
     // a ping request, and the time that it carries
     Pinged(Packet, RtmpTimestamp),
+}
+
+// One event.
+pub(crate) fn raised(event: ClientSessionEvent) -> Outcome
+    ensures { result ≡ Outcome.One (ClientSessionResult.RaisedEvent event) }
+{
+    Outcome::One(ClientSessionResult::RaisedEvent(event))
 }

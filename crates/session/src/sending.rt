@@ -1,20 +1,16 @@
 // Bodies written from what the session holds, and the packets of what was written.
-ghost use Rattle.std.specs.Prelude.{◌≡◌, ◌^◌, ◌<◌, true, length};
+ghost use Rattle.std.specs.Prelude.{◌≡◌, ◌^◌, ◌<◌, true, length, is_some};
 ghost use Rattle.octets.specs.Output.{Written};
 ghost use Rattle.amf0.specs.Places.{stretch};
 ghost use Rattle.bodies.specs.Bodies.{connect_body};
-ghost use Rattle.requests.specs.Texts.{fits, text_of, text_sound};
-ghost use Rattle.session.specs.Record.{texts_sound};
-ghost use Rattle.session.specs.Comes.{packet_of, sent_as};
+ghost use Rattle.requests.specs.Texts.{fits, text_of};
+ghost use Rattle.session.specs.Record.{texts_sound, url_of};
+ghost use Rattle.session.specs.Comes.{packet_of};
 
 use crate::config::ClientSessionConfig;
-use crate::errors::ClientSessionError;
-use crate::record::ClientSession;
 use crate::result::{ClientSessionResult, Outcome, Packet};
-use amf0::TextAt;
 use messages::{RtmpTimestamp, StreamNumber, TransactionNumber};
-use octets::Wrote;
-use requests::Text;
+use octets::{NoSpace, Span};
 
 // A message whose body starts at output byte 0.
 pub(crate) fn packet(
@@ -37,61 +33,44 @@ pub(crate) fn packet(
     }
 }
 
-// One message that was written from byte 0, or refusal 12.
-pub(crate) fn outcome(
+// That message alone.
+pub(crate) fn sent(
     type_id: u8,
     time: RtmpTimestamp,
     stream: StreamNumber,
     droppable: bool,
-    wrote: Wrote,
+    len: usize,
 ) -> Outcome
-    ensures { (s : ClientSession) → record { outcome = result; session = s } ≡ sent_as s s type_id time stream droppable wrote }
+    ensures { result ≡ Outcome.One (ClientSessionResult.OutboundResponse (packet_of type_id time stream droppable len)) }
 {
-    match wrote {
-        Wrote::NoSpace => Outcome::Refused(ClientSessionError::Space),
-        Wrote::Done(len) => {
-            let packet = packet(type_id, time, stream, droppable, len);
-            Outcome::One(ClientSessionResult::OutboundResponse(packet))
-        }
-    }
+    let packet = packet(type_id, time, stream, droppable, len);
+    Outcome::One(ClientSessionResult::OutboundResponse(packet))
 }
 
 // Whether refusal 9 doesn't meet the encoder's text, which lies in `text`.
-pub(crate) fn encoder_fits(encoder: TextAt, text: &[u8]) -> bool
+pub(crate) fn encoder_fits(encoder: Option<Span>, text: &[u8]) -> bool
     ensures { result ≡ fits (stretch text.now encoder) }
 {
     match encoder {
-        TextAt::Absent => true,
-        TextAt::At { start, len } => requests::fits(octets::part(text, start, len)),
+        None => true,
+        Some(place) => requests::fits(place.part_of(text)),
     }
 }
 
 // The connect body with the settings' texts.
 pub(crate) fn connect(
-    config: ClientSessionConfig,
+    config: &ClientSessionConfig,
     number: TransactionNumber,
     app: &[u8],
     out: &mut [u8],
-) -> Wrote
-    requires sound { texts_sound config ≡ true }
+) -> Result<usize, NoSpace>
+    requires sound { texts_sound config.now ≡ true }
     requires app_short { length app.now < 2 ^ 16 }
-    ensures { Written out.old (connect_body number.0 app.now (text_of config.flash_version) config.has_tc_url (text_of config.tc_url)) out.new result }
+    ensures { Written out.old (connect_body number.0 app.now (text_of config.now.flash_version) (is_some config.now.tc_url) (url_of config.now.tc_url)) out.new result }
 {
-    let flash = config.flash_version;
-    let flash_bytes = flash.bytes;
-    let flash_len = flash.len;
-    if config.has_tc_url {
-        let url = config.tc_url;
-        let url_bytes = url.bytes;
-        let url_len = url.len;
-        return bodies::write_connect(
-            out,
-            number,
-            app,
-            &flash_bytes[..flash_len],
-            true,
-            &url_bytes[..url_len],
-        );
+    let flash = config.flash_version.as_slice();
+    match &config.tc_url {
+        None => bodies::write_connect(out, number, app, flash, None),
+        Some(url) => bodies::write_connect(out, number, app, flash, Some(url.as_slice())),
     }
-    bodies::write_connect(out, number, app, &flash_bytes[..flash_len], false, b"")
 }

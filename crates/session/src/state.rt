@@ -1,5 +1,9 @@
-// Stage (document 01).
-#[derive(Clone, Copy)]
+// Stage (document 01), and the tests of it.
+ghost use Rattle.std.specs.Prelude.{◌≡◌};
+ghost use Rattle.session.specs.Plan.{is_disconnected, is_connected, is_play, is_publish, is_publishing};
+ghost use Rattle.session.specs.Message.{is_play_requested, is_publish_requested};
+
+#[derive(Clone, Copy, Debug, PartialEq, Eq)]
 pub enum ClientState {
     // not connected to an application on the server yet
     Disconnected,
@@ -10,4 +14,53 @@ pub enum ClientState {
     // publishing was requested, and its Start notice hasn't come
     PublishRequested,
     Publishing,
+}
+
+impl ClientState {
+    pub(crate) fn is_disconnected(self) -> bool
+        ensures { result ≡ is_disconnected self }
+    {
+        self == ClientState::Disconnected
+    }
+
+    pub(crate) fn is_connected(self) -> bool
+        ensures { result ≡ is_connected self }
+    {
+        self == ClientState::Connected
+    }
+
+    // At which playback can be stopped, and pictures and sound come in.
+    pub(crate) fn is_play(self) -> bool
+        ensures { result ≡ is_play self }
+    {
+        matches!(self, ClientState::PlayRequested | ClientState::Playing)
+    }
+
+    // At which publishing can be stopped.
+    pub(crate) fn is_publish(self) -> bool
+        ensures { result ≡ is_publish self }
+    {
+        matches!(
+            self,
+            ClientState::PublishRequested | ClientState::Publishing
+        )
+    }
+
+    pub(crate) fn is_publishing(self) -> bool
+        ensures { result ≡ is_publishing self }
+    {
+        self == ClientState::Publishing
+    }
+
+    pub(crate) fn is_play_requested(self) -> bool
+        ensures { result ≡ is_play_requested self }
+    {
+        self == ClientState::PlayRequested
+    }
+
+    pub(crate) fn is_publish_requested(self) -> bool
+        ensures { result ≡ is_publish_requested self }
+    {
+        self == ClientState::PublishRequested
+    }
 }

@@ -8,6 +8,7 @@ use mathlib.Core.List.{List, [], ◌∷◌, append-nil}
 use lib.Dec.{ltb}
 use lib.ListN.{length}
 use borrow.Author.Tests.{le-leb, lt-leb, le-ltb}
+use Rattle.std.specs.Prelude.{Some}
 use Rattle.octets.specs.Parse.{Parse, bad, got}
 use Rattle.octets.specs.BigEndian.{digits, uint}
 use Rattle.octets.proofs.BigEndianLaws.{length_digits}
@@ -24,13 +25,11 @@ use Rattle.session.specs.Record.{texts_sound, chunk_sound, is_session, fresh, op
 use Rattle.session.specs.Step.{Stepped, fitted, plan, step}
 use Rattle.session.specs.declared.config.ClientSessionConfig.{ClientSessionConfig}
 use Rattle.session.specs.declared.record.ClientSession.{ClientSession}
-use Rattle.session.specs.declared.record.PeerWindow.TheVariants as window
 use Rattle.session_laws.specs.Acknowledged.{sum, acknowledged, counts, sets_window, since, is_set, Sum, SumFrom, EveryTurn, Counts, Acknowledges, ByWindow, EveryCount, SetsWindow, EveryWindow}
 use Rattle.session_laws.specs.Kept.{ClosesBy, reply}
 use Rattle.session_laws.specs.Lines.{Line, step_of, line_of, lines, after, results_of, messages_in, sent_on}
 use Rattle.session_laws.specs.Refusals.{is_refused}
 use Rattle.session_laws.proofs.DecideLaws.{clash}
-use Rattle.session_laws.proofs.OrderLaws.{results_pass}
 use Rattle.session_laws.proofs.SentLaws.{reads_back}
 use Rattle.session_laws.proofs.WindowLaws.{at_five}
 use Rattle.session_laws.proofs.StepLaws.{Went, stays, shuts, moves, went, step-go}
@@ -52,7 +51,7 @@ module _ (s : ClientSession) (c : Call) where
   sums-went r (stays e h) = record { sums = omega arith; sets = refl }
   sums-went r (shuts e t h w m) = let q = shut_link w in record { sums = omega (arith, ap (λ l. l.pending) q); sets = ap (λ l. is_set l.window) q }
   sums-went {old} r (moves rs t m) =
-      record { sums = rw (reads_back old rs, results_pass rs) (m.sums ∙ omega arith); sets = rw (results_pass rs) m.sets }
+      record { sums = rw (reads_back old rs) (m.sums ∙ omega arith); sets = m.sets }
 
 pub every_turn : EveryTurn
 every_turn s t = let w = sums-went s t.call (step_of s t) (went s t.call t.lent t.clock) in record { sums = w.sums; sets = w.sets }
@@ -97,14 +96,14 @@ module _ (s : ClientSession) (clock : RtmpTimestamp) (n : ℕ) (old : List ℕ) 
   counted-as rs p e l =
       let q = step-go s clock (bytes n) old rs (counted s clock n p) h e l in
       record {
-        passes = ap (λ r. is_refused r.outcome) q ∙ results_pass rs;
+        passes = ap (λ r. is_refused r.outcome) q;
         sends = ap (λ r. messages_in r.output (results_of r.outcome)) q ∙ reads_back old rs;
         pending_is = ap (λ r. r.session.link.pending) q;
         total_is = ap (λ r. r.session.link.total) q;
       }
 
   module _ (l : 4 ≤ length old) where
-    reaching : (w : ℕ) → s.link.window ≡ window.Some w → w ≤ s.link.pending + n → Acknowledges s clock n old
+    reaching : (w : ℕ) → s.link.window ≡ Some w → w ≤ s.link.pending + n → Acknowledges s clock n old
     unfolding in_turn sent_by bodies
     reaching w e r =
         let body = digits 4 ((s.link.pending + n) % 2 ^ 32) in

@@ -4,8 +4,8 @@ use Prim.Native.Nat.{ℕ, ◌+◌}
 use native.Mathlib.Omega.{arith}
 use mathlib.Core.Path.{◌≡◌, sym, ap, ◌∙◌}
 use mathlib.Core.List.{List, append-nil}
-use mathlib.Core.Option.{Option}
 use lib.ListN.{length, length-append}
+use Rattle.std.specs.Prelude.{Option, Some}
 use Rattle.octets.specs.Compare.{ascii, same}
 use Rattle.octets.proofs.BigEndianLaws.{length_digits}
 use Rattle.octets.proofs.CompareLaws.{same-eq}
@@ -22,14 +22,15 @@ use Rattle.messages.specs.declared.rtmp_message.CommandName.TheVariants as name
 use Rattle.messages.specs.declared.rtmp_message.UserControlEvent.TheVariants.{PingRequest}
 use Rattle.bodies.specs.Bodies.{control_body, play_body, publish_body}
 use Rattle.requests.specs.Texts.{text_of}
-use Rattle.requests.specs.Places.{Request, lookup}
+use Rattle.requests.specs.Places.{lookup}
+use Rattle.requests.specs.declared.place.Request.{Request}
 use Rattle.requests.specs.declared.outstanding_transaction.OutstandingTransaction.{OutstandingTransaction}
 use Rattle.requests.specs.declared.outstanding_transaction.OutstandingTransaction.TheVariants.{CreateStream}
 use Rattle.requests.specs.declared.outstanding_transaction.TransactionPurpose.{TransactionPurpose}
 use Rattle.requests.specs.declared.outstanding_transaction.TransactionPurpose.TheVariants.{PlayRequest, PublishRequest}
 use Rattle.requests.specs.declared.text.Text.{Text}
 use Rattle.requests.proofs.BoolLaws.{by_cases}
-use Rattle.session.specs.Message.{accepted, granted, result_of, result_to, command_of, control_in, on_message}
+use Rattle.session.specs.Message.{stream_number, accepted, granted, result_of, result_to, command_of, control_in, on_message}
 use Rattle.session.specs.Outcomes.{in_turn, sent_by, bodies}
 use Rattle.session.specs.Plan.{Plan}
 use Rattle.session.specs.declared.record.ClientSession.{ClientSession}
@@ -54,7 +55,7 @@ spelt t =
     rw (p, q, r) tt
 
 -- the first argument
-pub is_number : (vs : Values) (n : ℕ) → first_of vs ≡ argument.Number n → (others : Values) × (vs ≡ cons (number n) others)
+pub is_number : (vs : Values) (n : ℕ) → first_of vs ≡ Some (argument.Number n) → (others : Values) × (vs ≡ cons (number n) others)
 unfolding first_of argument_of
 is_number nil n h = clash (cc)
 is_number (cons (number m) vs) n h = let e : m ≡ n = cc in (vs, rw e)
@@ -65,7 +66,7 @@ is_number (cons null vs) n h = clash (cc)
 is_number (cons undefined vs) n h = clash (cc)
 is_number (cons (strict ws) vs) n h = clash (cc)
 
-pub first-number : (vs : Values) (n : ℕ) (others : Values) → vs ≡ cons (number n) others → first_of vs ≡ argument.Number n
+pub first-number : (vs : Values) (n : ℕ) (others : Values) → vs ≡ cons (number n) others → first_of vs ≡ Some (argument.Number n)
 unfolding first_of argument_of
 first-number vs n others e = rw e
 
@@ -97,9 +98,9 @@ module _ (s : ClientSession) (clock : RtmpTimestamp) (k : ℕ) (t : RtmpTimestam
           here ≡ result_of s clock b (command_at b c) (held c.number) kd q.text
       comes-open {q} o = comes-result o.found ∙ ap (λ kd. result_of s clock b (command_at b c) (held c.number) kd q.text) o.kind
 
-      pub comes-grant : {q : Request} {p : TransactionPurpose} {a : Argument} → RepliesTo s c q (CreateStream p) → first_of c.args ≡ a →
-          here ≡ granted s clock b (held c.number) p q.text a
-      comes-grant {q} {p} o e = comes-open o ∙ ap (granted s clock b (held c.number) p q.text) e
+      pub comes-grant : {q : Request} {p : TransactionPurpose} {a : Option Argument} → RepliesTo s c q (CreateStream p) → first_of c.args ≡ a →
+          here ≡ granted s clock b (held c.number) p q.text (stream_number a)
+      comes-grant {q} {p} o e = comes-open o ∙ ap (λ a. granted s clock b (held c.number) p q.text (stream_number a)) e
 
   -- how much an answer takes
   pub accept_takes : (n : ℕ) → planned (accepted s clock b n) ≡ 8
@@ -107,7 +108,7 @@ module _ (s : ClientSession) (clock : RtmpTimestamp) (k : ℕ) (t : RtmpTimestam
   accept_takes n = simp (length-append, length_digits)
 
   pub grant-takes : (n : ℕ) (p : TransactionPurpose) (key : Text) (v : ℕ) →
-      planned (granted s clock b n p key (argument.Number v)) ≡ grant_size p key
+      planned (granted s clock b n p key (stream_number (Some (argument.Number v)))) ≡ grant_size p key
   unfolding in_turn sent_by bodies control_body
   grant-takes n PlayRequest key v = simp (length-append, length_digits) (omega arith)
   grant-takes n (PublishRequest t) key v = simp append-nil

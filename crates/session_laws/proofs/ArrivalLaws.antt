@@ -6,12 +6,12 @@ use mathlib.Core.Path.{◌≡◌, refl, sym, ◌∙◌}
 use mathlib.Core.Logic.{◌≢◌, inr, ⊎_elim}
 use mathlib.Core.Bool.{true, false, or-true}
 use mathlib.Core.List.{List}
-use mathlib.Core.Option.{Option, none, some}
 use lib.Dec.{eqb}
 use lib.ListN.{drop}
 use lib.Ieee.Casts.{to_unsigned-lt}
 use lib.Ieee.{binary64, of_bits}
 use borrow.Author.Tests.{eq-eqb, ne_eqb, not-false}
+use Rattle.std.specs.Prelude.{Option, Some, None}
 use Rattle.octets.specs.Parse.{place_of}
 use Rattle.numbers.specs.Numbers.{held}
 use Rattle.messages.specs.Incoming.{Incoming, malformed, set_chunk_size, abort, acknowledgement, window_size, peer_bandwidth, user_control, command, values, audio, video, unknown, Command, decode}
@@ -29,7 +29,8 @@ use Rattle.messages.specs.declared.rtmp_message.DataMessage.{DataMessage}
 use Rattle.messages.specs.declared.rtmp_message.DataMessage.TheVariants as said
 use Rattle.messages.specs.declared.rtmp_message.UserControlEvent.{UserControlEvent}
 use Rattle.messages.specs.declared.rtmp_message.UserControlEvent.TheVariants.{StreamBegin, StreamEof, StreamDry, SetBufferLength, StreamIsRecorded, PingRequest, PingResponse}
-use Rattle.requests.specs.Places.{Request, lookup}
+use Rattle.requests.specs.Places.{lookup}
+use Rattle.requests.specs.declared.place.Request.{Request}
 use Rattle.requests.specs.Table.{closed}
 use Rattle.requests.specs.declared.outstanding_transaction.OutstandingTransaction.{OutstandingTransaction}
 use Rattle.requests.specs.declared.outstanding_transaction.OutstandingTransaction.TheVariants.{ConnectionRequested, CreateStream}
@@ -39,14 +40,13 @@ use Rattle.requests.specs.declared.table.Requests.{Requests}
 use Rattle.requests.proofs.BoolLaws.{by_cases}
 use Rattle.requests.proofs.TableLaws.{length-closed, closed-sound, closed-open}
 use Rattle.session.specs.Calls.{Call, connect, play, publish, stop_playback, stop_publishing, ping, picture, sound, metadata, bytes, message, Results, nothing}
-use Rattle.session.specs.Message.{is_play_requested, is_publish_requested, is_active, after_closing, granted, result_of, error_of, result_to, error_to, noticed, command_of, if_active, media_in, data_in, control_in, window_in, chunk_in, on_message}
+use Rattle.session.specs.Message.{stream_number, is_play_requested, is_publish_requested, is_active, after_closing, granted, result_of, error_of, result_to, error_to, noticed, command_of, if_active, media_in, data_in, control_in, window_in, chunk_in, on_message}
 use Rattle.session.specs.Outcomes.{in_turn, sent_by}
 use Rattle.session.specs.Plan.{close, if_large, is_play, is_publish, unless_stage}
 use Rattle.session.specs.Step.{plan}
 use Rattle.session.specs.declared.errors.ClientSessionError.{ClientSessionError}
 use Rattle.session.specs.declared.errors.ClientSessionError.TheVariants.{CreateStreamFailed, CreateStreamResponseHadNoStreamNumber}
 use Rattle.session.specs.declared.events.ClientSessionEvent.{ClientSessionEvent}
-use Rattle.session.specs.declared.record.ActiveStream.TheVariants as active
 use Rattle.session.specs.declared.record.ClientSession.{ClientSession}
 use Rattle.session.specs.declared.record.Progress.{Progress}
 use Rattle.session.specs.declared.state.ClientState.{ClientState}
@@ -70,7 +70,7 @@ connected : (p : Progress) → Streamed p → Streamed (record { state = Connect
 connected p h = record { below = h.below; idle = λ e. inr refl }
 
 -- a grant's stream
-granted-stream : (g : ClientState) (v : ℕ) → Streamed (record { state = g; active = active.Some (record { 0 = held v }) })
+granted-stream : (g : ClientState) (v : ℕ) → Streamed (record { state = g; active = Some (record { 0 = held v }) })
 granted-stream g v = record { below = λ x e. let q : x.0 ≡ held v = cc in rw q (to_unsigned-lt 32 (of_bits binary64 v)); idle = λ e. clash (cc) }
 
 -- from a stage with a stream to another
@@ -82,7 +82,7 @@ module _ (s : ClientSession) (clock : RtmpTimestamp) (k : ℕ) (t : RtmpTimestam
   abbrev it : Call
   it = message k t x b
 
-  closing : {c : Command} {q : Request} → decode k b ≡ command c → lookup (held c.number) s.requests.places ≡ some q →
+  closing : {c : Command} {q : Request} → decode k b ≡ command c → lookup (held c.number) s.requests.places ≡ Some q →
       ClosesBy s it (after_closing s clock b (held c.number))
   closing {c} {q} e f =
       let n : ℕ = held c.number in
@@ -113,28 +113,28 @@ module _ (s : ClientSession) (clock : RtmpTimestamp) (k : ℕ) (t : RtmpTimestam
 
     -- refusals 4 and 5
     shut : (d : ClientSessionError) {c : Command} {q : Request} → decode k b ≡ command c →
-        lookup (held c.number) s.requests.places ≡ some q → closes d ≡ true →
+        lookup (held c.number) s.requests.places ≡ Some q → closes d ≡ true →
         Good s it (close d (after_closing s clock b (held c.number)))
     unfolding sum in_turn sent_by
     shut d {c} e f h = (h, closing e f, answered nothing (held c.number) s.progress refl (λ r. r))
 
     module _ {c : Command} (e : decode k b ≡ command c) where
-      granting : {q : Request} (p : TransactionPurpose) → lookup (held c.number) s.requests.places ≡ some q → (a : Argument) →
-          Good s it (granted s clock b (held c.number) p q.text a)
+      granting : {q : Request} (p : TransactionPurpose) → lookup (held c.number) s.requests.places ≡ Some q → (a : Option Argument) →
+          Good s it (granted s clock b (held c.number) p q.text (stream_number a))
       unfolding sum in_turn sent_by
-      granting PlayRequest f (argument.Number v) = answered _ (held c.number) _ refl (λ h. granted-stream PlayRequested v)
-      granting (PublishRequest p) f (argument.Number v) = answered _ (held c.number) _ refl (λ h. granted-stream PublishRequested v)
-      granting p f argument.Absent = shut CreateStreamResponseHadNoStreamNumber e f refl
-      granting p f argument.Object = shut CreateStreamResponseHadNoStreamNumber e f refl
-      granting p f argument.Other = shut CreateStreamResponseHadNoStreamNumber e f refl
+      granting PlayRequest f (Some (argument.Number v)) = answered _ (held c.number) _ refl (λ h. granted-stream PlayRequested v)
+      granting (PublishRequest p) f (Some (argument.Number v)) = answered _ (held c.number) _ refl (λ h. granted-stream PublishRequested v)
+      granting p f None = shut CreateStreamResponseHadNoStreamNumber e f refl
+      granting p f (Some argument.Object) = shut CreateStreamResponseHadNoStreamNumber e f refl
+      granting p f (Some argument.Other) = shut CreateStreamResponseHadNoStreamNumber e f refl
 
-      resulting_of : {q : Request} → lookup (held c.number) s.requests.places ≡ some q → (kd : OutstandingTransaction) →
+      resulting_of : {q : Request} → lookup (held c.number) s.requests.places ≡ Some q → (kd : OutstandingTransaction) →
           Good s it (result_of s clock b (command_at b c) (held c.number) kd q.text)
       unfolding sum in_turn sent_by
       resulting_of f ConnectionRequested = answered _ (held c.number) _ refl (connected s.progress)
       resulting_of f (CreateStream p) = granting p f (first_of c.args)
 
-      failing_of : {q : Request} → lookup (held c.number) s.requests.places ≡ some q → (kd : OutstandingTransaction) →
+      failing_of : {q : Request} → lookup (held c.number) s.requests.places ≡ Some q → (kd : OutstandingTransaction) →
           Good s it (error_of s clock b (command_at b c) (held c.number) kd)
       unfolding sum in_turn sent_by
       failing_of f ConnectionRequested = answered _ (held c.number) s.progress refl (λ h. h)
@@ -143,18 +143,18 @@ module _ (s : ClientSession) (clock : RtmpTimestamp) (k : ℕ) (t : RtmpTimestam
       replying : (o : Option Request) → lookup (held c.number) s.requests.places ≡ o →
           Good s it (result_to s clock b (command_at b c) (held c.number) o) × Good s it (error_to s clock b (command_at b c) (held c.number) o)
       unfolding sum in_turn sent_by
-      replying none f = (kept _ refl, kept _ refl)
-      replying (some q) f = (resulting_of f q.kind, failing_of f q.kind)
+      replying None f = (kept _ refl, kept _ refl)
+      replying (Some q) f = (resulting_of f q.kind, failing_of f q.kind)
 
-      noticing : (g : OnStatus) → Good s it (noticed s clock b g)
+      noticing : (g : Option OnStatus) → Good s it (noticed s clock b g)
       unfolding sum in_turn sent_by
-      noticing status.Invalid = refl
-      noticing (status.Other start n) = kept _ refl
-      noticing status.PlayStart =
+      noticing None = refl
+      noticing (Some (status.Other p)) = kept _ refl
+      noticing (Some status.PlayStart) =
           good_check s it (unless_stage is_play_requested s) _ _ refl λ h.
           let g = is-play-requested s.progress.state (not-false _ h) in
           good-last s it _ (quiet s it _ _ _ _ still refl (onward s.progress Playing (λ d. clash (cc)) (λ d. clash (cc))) (λ r. r) refl)
-      noticing status.PublishStart =
+      noticing (Some status.PublishStart) =
           good_check s it (unless_stage is_publish_requested s) _ _ refl λ h.
           let g = is-publish-requested s.progress.state (not-false _ h) in
           good-last s it _ (quiet s it _ _ _ _ still refl (onward s.progress Publishing (λ d. clash (cc)) (λ d. clash (cc))) (λ r. r) refl)

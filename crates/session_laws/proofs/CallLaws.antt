@@ -9,6 +9,7 @@ use mathlib.Core.List.{List, [], ◌∷◌, append-nil}
 use lib.Dec.{leb}
 use lib.ListN.{length, length-append}
 use borrow.Author.Tests.{leb-true, leb-false}
+use Rattle.std.specs.Prelude.{Option, Some, None}
 use Rattle.octets.proofs.BigEndianLaws.{length_digits}
 use Rattle.amf0.specs.Places.{stretch}
 use Rattle.messages.specs.declared.ids.RtmpTimestamp.{RtmpTimestamp}
@@ -27,11 +28,7 @@ use Rattle.session.specs.Plan.{go, Check, is_play, is_publish, is_publishing, un
 use Rattle.session.specs.Record.{is_session}
 use Rattle.session.specs.Step.{Stepped, fitted, plan, step}
 use Rattle.session.specs.declared.errors.ClientSessionError.TheVariants.{SessionInInvalidState, NoKnownActiveStreamIdWhenRequired, Space, NotASession}
-use Rattle.session.specs.declared.record.ActiveStream.{ActiveStream}
-use Rattle.session.specs.declared.record.ActiveStream.TheVariants as active
 use Rattle.session.specs.declared.record.ClientSession.{ClientSession}
-use Rattle.session.specs.declared.record.PeerWindow.{PeerWindow}
-use Rattle.session.specs.declared.record.PeerWindow.TheVariants as window
 use Rattle.session.specs.declared.state.ClientState.{ClientState}
 use Rattle.session.specs.declared.state.ClientState.TheVariants.{Publishing}
 use Rattle.session_laws.specs.Order.{Row, ◌if◌}
@@ -95,15 +92,15 @@ module _ (s : ClientSession) (clock : RtmpTimestamp) (old : List ℕ) where
     record Stops (n : ℕ) : Type 0 where
       stream : StreamNumber
       here : own (stage s) ≡ true
-      on : s.progress.active ≡ active.Some stream
+      on : s.progress.active ≡ Some stream
       is : n ≡ length (delete_stream_body stream.0)
 
-    module _ (to : (x : StreamNumber) → own (stage s) ≡ true → s.progress.active ≡ active.Some x → Takes s c (length (delete_stream_body x.0)))
+    module _ (to : (x : StreamNumber) → own (stage s) ≡ true → s.progress.active ≡ Some x → Takes s c (length (delete_stream_body x.0)))
         (only : (n : ℕ) → Takes s c n → Stops n) where
-      stopped-on : (a : ActiveStream) → s.progress.active ≡ a → own (stage s) ≡ true →
+      stopped-on : (a : Option StreamNumber) → s.progress.active ≡ a → own (stage s) ≡ true →
           Fate (Space if Short s c old ∷ []) (answer s old (stopped s clock a))
-      stopped-on active.None e h = sends_none c _ (λ n w. let o = (only n w).on in clash (cc))
-      stopped-on (active.Some x) e h =
+      stopped-on None e h = sends_none c _ (λ n w. let o = (only n w).on in clash (cc))
+      stopped-on (Some x) e h =
           sends-one c _ _ (to x h e)
           (λ n w. let o = (only n w).on in let q : (only n w).stream ≡ x = cc in (only n w).is ∙ ap (λ y. length (delete_stream_body y.0)) q)
 
@@ -118,12 +115,12 @@ module _ (s : ClientSession) (clock : RtmpTimestamp) (old : List ℕ) where
       (to : (x : StreamNumber) → Takes s c (length (m x).body)) (only : (x : StreamNumber) (n : ℕ) → Takes s c n → n ≡ length (m x).body) where
     -- 3, 9 and 12
     abbrev from3 : List Row
-    from3 = NoKnownActiveStreamIdWhenRequired if (s.progress.active ≡ active.None) ∷ given.says if w ∷ Space if Short s c old ∷ []
+    from3 = NoKnownActiveStreamIdWhenRequired if (s.progress.active ≡ None) ∷ given.says if w ∷ Space if Short s c old ∷ []
 
-    published-on : (a : ActiveStream) → s.progress.active ≡ a → Fate from3 (answer s old (published_on s clock given m a))
+    published-on : (a : Option StreamNumber) → s.progress.active ≡ a → Fate from3 (answer s old (published_on s clock given m a))
     unfolding fitted
-    published-on active.None e = hit e refl
-    published-on (active.Some x) e =
+    published-on None e = hit e refl
+    published-on (Some x) e =
         miss (λ n. clash (cc)) (checked s old given _ _ d λ h. last s old _ (sends-one c _ _ (to x) (only x)))
 
     publishing : Fate (SessionInInvalidState (stage s) if (stage s ≢ Publishing) ∷ from3) (answer s old (published s clock given m))
@@ -141,12 +138,12 @@ module _ (s : ClientSession) (clock : RtmpTimestamp) (old : List ℕ) where
       only n pings = refl
 
   -- a byte count
-  acknowledged : (n : ℕ) {m : ℕ} → Takes s (bytes n) m → (m ≡ 4) × ((w : ℕ) × (s.link.window ≡ window.Some w) × (w ≤ s.link.pending + n))
+  acknowledged : (n : ℕ) {m : ℕ} → Takes s (bytes n) m → (m ≡ 4) × ((w : ℕ) × (s.link.window ≡ Some w) × (w ≤ s.link.pending + n))
   acknowledged n (acknowledges _ w e l) = (refl, (w, e, l))
 
-  counting-by : (n : ℕ) (o : PeerWindow) → s.link.window ≡ o → Fate (Space if Short s (bytes n) old ∷ []) (answer s old (counted_by s clock n o))
-  counting-by n window.None e = sends_none (bytes n) _ (λ m w. let q = (acknowledged n w).1.1 in clash (cc))
-  counting-by n (window.Some v) e =
+  counting-by : (n : ℕ) (o : Option ℕ) → s.link.window ≡ o → Fate (Space if Short s (bytes n) old ∷ []) (answer s old (counted_by s clock n o))
+  counting-by n None e = sends_none (bytes n) _ (λ m w. let q = (acknowledged n w).1.1 in clash (cc))
+  counting-by n (Some v) e =
       let p = s.link.pending + n in
       by_cases (leb v p)
       (λ h. rw h

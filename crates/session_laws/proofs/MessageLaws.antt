@@ -6,9 +6,9 @@ use mathlib.Core.Path.{◌≡◌, refl, sym, ap, subst, ◌∙◌}
 use mathlib.Core.Logic.{◌≢◌, ◌⊎◌, inl, inr, ⊎_elim}
 use mathlib.Core.Bool.{false, not}
 use mathlib.Core.List.{List, [], ◌∷◌}
-use mathlib.Core.Option.{Option, none, some}
 use lib.ListN.{length}
 use borrow.Author.Tests.{not-true, not-false}
+use Rattle.std.specs.Prelude.{Result, Option, Some, None}
 use Rattle.octets.specs.Compare.{ascii, same}
 use Rattle.octets.specs.Parse.{place_of}
 use Rattle.octets.proofs.CompareLaws.{same-ne}
@@ -28,17 +28,19 @@ use Rattle.messages.specs.declared.rtmp_message.DataMessage.{DataMessage}
 use Rattle.messages.specs.declared.rtmp_message.DataMessage.TheVariants as said
 use Rattle.messages.specs.declared.rtmp_message.UserControlEvent.{UserControlEvent}
 use Rattle.messages.specs.declared.rtmp_message.UserControlEvent.TheVariants.{StreamBegin, StreamEof, StreamDry, SetBufferLength, StreamIsRecorded, PingRequest, PingResponse}
-use Rattle.requests.specs.Places.{Request, lookup}
+use Rattle.requests.specs.Places.{lookup}
+use Rattle.requests.specs.declared.place.Request.{Request}
 use Rattle.requests.specs.declared.outstanding_transaction.OutstandingTransaction.{OutstandingTransaction}
 use Rattle.requests.specs.declared.outstanding_transaction.OutstandingTransaction.TheVariants.{ConnectionRequested, CreateStream}
 use Rattle.requests.specs.declared.outstanding_transaction.TransactionPurpose.{TransactionPurpose}
 use Rattle.requests.specs.declared.outstanding_transaction.TransactionPurpose.TheVariants.{PlayRequest, PublishRequest}
 use Rattle.requests.proofs.BoolLaws.{by_cases}
 use Rattle.session.specs.Calls.{Call, message, Results}
-use Rattle.session.specs.Message.{is_play_requested, is_publish_requested, is_active, if_active, media_in, data_in, control_in, chunk_in, command_of, result_to, result_of, granted, error_to, error_of, noticed, on_message}
+use Rattle.session.specs.Message.{stream_number, is_play_requested, is_publish_requested, is_active, if_active, media_in, data_in, control_in, chunk_in, command_of, result_to, result_of, granted, error_to, error_of, noticed, on_message}
 use Rattle.session.specs.Outcomes.{in_turn, sent_by, bodies, output}
 use Rattle.session.specs.Plan.{Plan, go, Check, in_order, is_play, if_large, unless_stage}
 use Rattle.session.specs.Step.{fitted, plan}
+use Rattle.session.specs.declared.errors.ClientSessionError.{ClientSessionError}
 use Rattle.session.specs.declared.errors.ClientSessionError.TheVariants.{SessionInInvalidState, CreateStreamFailed, CreateStreamResponseHadNoStreamNumber, InvalidOnStatusArguments, InvalidMaxChunkSize, MalformedBody, Space}
 use Rattle.session.specs.declared.events.ClientSessionEvent.{ClientSessionEvent}
 use Rattle.session.specs.declared.events.ClientSessionEvent.TheVariants.{AudioDataReceived, VideoDataReceived}
@@ -85,7 +87,7 @@ module _ (s : ClientSession) (clock : RtmpTimestamp) (old : List ℕ) (k : ℕ) 
   from8 = MalformedBody if (decode k b ≡ malformed) ∷ from2
 
   -- rows that are another sort's
-  module _ {o : Outcome} where
+  module _ {o : Result Outcome ClientSessionError} where
     skip8 : (sort (decode k b) ≡ 0 → ⊥) → Fate from2 o → Fate from8 o
     skip8 n f = miss (λ w. n (ap sort w)) f
 
@@ -121,26 +123,26 @@ module _ (s : ClientSession) (clock : RtmpTimestamp) (old : List ℕ) (k : ℕ) 
     is-open (result d q p n o w) =
         let e : d ≡ c = cc in (q, p, subst (λ d. RepliesTo s d q (CreateStream p)) e o, subst (λ d. NoNumber d.args) e w)
 
-    grants : {q : Request} (p : TransactionPurpose) {v : ℕ} → RepliesTo s c q (CreateStream p) → first_of c.args ≡ argument.Number v →
+    grants : {q : Request} (p : TransactionPurpose) {v : ℕ} → RepliesTo s c q (CreateStream p) → first_of c.args ≡ Some (argument.Number v) →
         Answers s k b (grant_size p q.text)
     grants {q} PlayRequest {v} o e = let w = is_number c.args v e in grants_play c q v w.0 m o w.1
     grants {q} (PublishRequest p) {v} o e = let w = is_number c.args v e in grants_publish c q p v w.0 m o w.1
 
-    no_number : {a : Argument} → first_of c.args ≡ a → ((n : ℕ) → a ≢ argument.Number n) → NoNumber c.args
+    no_number : {a : Option Argument} → first_of c.args ≡ a → ((n : ℕ) → a ≢ Some (argument.Number n)) → NoNumber c.args
     no_number e d n others h = d n (sym e ∙ first-number c.args n others h)
 
-    granting : {q : Request} (p : TransactionPurpose) → RepliesTo s c q (CreateStream p) → (a : Argument) → first_of c.args ≡ a →
-        Fate from5 (answer s old (granted s clock b (held c.number) p q.text a))
+    granting : {q : Request} (p : TransactionPurpose) → RepliesTo s c q (CreateStream p) → (a : Option Argument) → first_of c.args ≡ a →
+        Fate from5 (answer s old (granted s clock b (held c.number) p q.text (stream_number a)))
     unfolding fitted
-    granting {q} p o (argument.Number v) e =
+    granting {q} p o (Some (argument.Number v)) e =
         let h = result-sort m in
         let w = is_number c.args v e in
         let z = grant-takes s clock k t x b (held c.number) p q.text v in
         miss (λ r. (is-open r).3 v w.0 w.1)
         (skip6 (omega arith) (skip7 (omega arith) (takes _ _ (comes-grant s clock k t x b m o e) (rw z (grants p o e)))))
-    granting {q} p o argument.Absent e = hit (result c q p m o (no_number e (λ n h. clash (cc)))) refl
-    granting {q} p o argument.Object e = hit (result c q p m o (no_number e (λ n h. clash (cc)))) refl
-    granting {q} p o argument.Other e = hit (result c q p m o (no_number e (λ n h. clash (cc)))) refl
+    granting {q} p o None e = hit (result c q p m o (no_number e (λ n h. clash (cc)))) refl
+    granting {q} p o (Some argument.Object) e = hit (result c q p m o (no_number e (λ n h. clash (cc)))) refl
+    granting {q} p o (Some argument.Other) e = hit (result c q p m o (no_number e (λ n h. clash (cc)))) refl
 
     resulting_of : {q : Request} (kd : OutstandingTransaction) → RepliesTo s c q kd →
         Fate from5 (answer s old (result_of s clock b (command_at b c) (held c.number) kd q.text))
@@ -162,11 +164,11 @@ module _ (s : ClientSession) (clock : RtmpTimestamp) (old : List ℕ) (k : ℕ) 
     resulting : (o : Option Request) → lookup (held c.number) s.requests.places ≡ o →
         Fate from5 (answer s old (result_to s clock b (command_at b c) (held c.number) o))
     unfolding in_turn sent_by bodies
-    resulting none f =
+    resulting None f =
         let h = result-sort m in
         miss (λ r. let g = (is-open r).2.found in clash (cc))
         (skip6 (omega arith) (skip7 (omega arith) (takes_none _ _ (comes-result s clock k t x b m f) refl)))
-    resulting (some q) f = resulting_of q.kind (record { found = f; kind = refl })
+    resulting (Some q) f = resulting_of q.kind (record { found = f; kind = refl })
 
   -- `_error`
   module _ {c : Command} (m : Named k b (ascii "_error") c) where
@@ -199,11 +201,11 @@ module _ (s : ClientSession) (clock : RtmpTimestamp) (old : List ℕ) (k : ℕ) 
     failing : (o : Option Request) → lookup (held c.number) s.requests.places ≡ o →
         Fate from4 (answer s old (error_to s clock b (command_at b c) (held c.number) o))
     unfolding in_turn sent_by bodies
-    failing none f =
+    failing None f =
         let h = error_sort m in
         miss (λ r. let g = (is-failed r).2.found in clash (cc))
         (skip5 (omega arith) (skip6 (omega arith) (skip7 (omega arith) (takes_none _ _ (comes-error f) refl))))
-    failing (some q) f = failing_of q.kind (record { found = f; kind = refl })
+    failing (Some q) f = failing_of q.kind (record { found = f; kind = refl })
 
   -- a single check, and then nothing is sent
   unchecked : (j : Check) (p : Plan) → j.when ≡ false → in_order (j ∷ []) p ≡ p
@@ -211,34 +213,34 @@ module _ (s : ClientSession) (clock : RtmpTimestamp) (old : List ℕ) (k : ℕ) 
   unchecked j p h = rw h
 
   one-check : (j : Check) (rs : Results) (after : ClientSession) {w : Type 0} {rows : List Row} → Decides j.when w →
-      now ≡ in_order (j ∷ []) (go rs after) → length (output rs) ≡ 0 → ((o : Outcome) → Fate from12 o → Fate rows o) →
+      now ≡ in_order (j ∷ []) (go rs after) → length (output rs) ≡ 0 → ((o : Result Outcome ClientSessionError) → Fate from12 o → Fate rows o) →
       Fate (j.says if w ∷ rows) (answer s old (in_order (j ∷ []) (go rs after)))
   one-check j rs after d e z more = checked s old j _ _ d λ h. last s old _ (more _ (takes_none rs after (e ∙ unchecked j _ h) z))
 
   -- `onStatus`
   module _ {c : Command} (m : Named k b (ascii "onStatus") c) where
     starts : WrongStage s k b →
-        ((code c ≡ some (ascii "NetStream.Play.Start")) × (stage s ≢ PlayRequested))
-        ⊎ ((code c ≡ some (ascii "NetStream.Publish.Start")) × (stage s ≢ PublishRequested))
+        ((code c ≡ Some (ascii "NetStream.Play.Start")) × (stage s ≢ PlayRequested))
+        ⊎ ((code c ≡ Some (ascii "NetStream.Publish.Start")) × (stage s ≢ PublishRequested))
     starts (play_start d n h g) = let e : d ≡ c = cc in inl (ap code (sym e) ∙ h, g)
     starts (publish_start d n h g) = let e : d ≡ c = cc in inr (ap code (sym e) ∙ h, g)
     starts (sound_in e g h) = absurd (omega (arith, ap sort e, notice-sort m))
     starts (picture_in e g h) = absurd (omega (arith, ap sort e, notice-sort m))
 
-    is-bad : BadNotice k b → code c ≡ none
+    is-bad : BadNotice k b → code c ≡ None
     is-bad (notice d n h) = let e : d ≡ c = cc in ap code (sym e) ∙ h
 
     -- after 2, for a notice with a code
-    coded : {o : Outcome} {u : List ℕ} → code c ≡ some u → Fate from12 o → Fate from4 o
+    coded : {o : Result Outcome ClientSessionError} {u : List ℕ} → code c ≡ Some u → Fate from12 o → Fate from4 o
     coded e f =
         let h = notice-sort m in
         skip4 (omega arith) (skip5 (omega arith) (miss (λ w. let z = is-bad w in clash (cc)) (skip7 (omega arith) f)))
 
-    other-start : some (ascii "NetStream.Play.Start") ≡ some (ascii "NetStream.Publish.Start") → ⊥
+    other-start : Some (ascii "NetStream.Play.Start") ≡ Some (ascii "NetStream.Publish.Start") → ⊥
     unfolding same
     other-start e = same-ne (ascii "NetStream.Play.Start") (ascii "NetStream.Publish.Start") refl (cc)
 
-    play_decides : code c ≡ some (ascii "NetStream.Play.Start") → Decides (not (is_play_requested (stage s))) (WrongStage s k b)
+    play_decides : code c ≡ Some (ascii "NetStream.Play.Start") → Decides (not (is_play_requested (stage s))) (WrongStage s k b)
     play_decides e =
         let d = decides_play-requested (stage s) in
         record {
@@ -246,7 +248,7 @@ module _ (s : ClientSession) (clock : RtmpTimestamp) (old : List ℕ) (k : ℕ) 
           fails = λ h w. ⊎_elim (λ v. d.fails h v.1) (λ v. other-start (sym e ∙ v.0)) (starts w);
         }
 
-    publish-decides : code c ≡ some (ascii "NetStream.Publish.Start") → Decides (not (is_publish_requested (stage s))) (WrongStage s k b)
+    publish-decides : code c ≡ Some (ascii "NetStream.Publish.Start") → Decides (not (is_publish_requested (stage s))) (WrongStage s k b)
     publish-decides e =
         let d = decides-publish-requested (stage s) in
         record {
@@ -254,20 +256,20 @@ module _ (s : ClientSession) (clock : RtmpTimestamp) (old : List ℕ) (k : ℕ) 
           fails = λ h w. ⊎_elim (λ v. other-start (sym v.0 ∙ e)) (λ v. d.fails h v.1) (starts w);
         }
 
-    noticing : {o : Option (List ℕ)} (g : OnStatus) → CodeSays b o g → code c ≡ o → now ≡ noticed s clock b g →
+    noticing : {o : Option (List ℕ)} (g : Option OnStatus) → CodeSays b o g → code c ≡ o → now ≡ noticed s clock b g →
         Fate from2 (answer s old (noticed s clock b g))
     unfolding fitted in_turn sent_by bodies
-    noticing status.Invalid no_code e f =
+    noticing None no_code e f =
         let h = notice-sort m in
         miss (λ w. ⊎_elim (λ v. let q = v.0 in clash (cc)) (λ v. let q = v.0 in clash (cc)) (starts w))
         (skip4 (omega arith) (skip5 (omega arith) (hit (notice c m e) refl)))
-    noticing status.PlayStart play-start e f = one-check (unless_stage is_play_requested s) _ _ (play_decides e) f refl (λ o. coded {o = o} e)
-    noticing status.PublishStart publish-start e f = one-check (unless_stage is_publish_requested s) _ _ (publish-decides e) f refl (λ o. coded {o = o} e)
-    noticing (status.Other start n) (other-code {t = u} l p q) e f =
+    noticing (Some status.PlayStart) play-start e f = one-check (unless_stage is_play_requested s) _ _ (play_decides e) f refl (λ o. coded {o = o} e)
+    noticing (Some status.PublishStart) publish-start e f = one-check (unless_stage is_publish_requested s) _ _ (publish-decides e) f refl (λ o. coded {o = o} e)
+    noticing (Some (status.Other w)) (other-code {t = u} l p q) e f =
         miss (λ w. ⊎_elim (λ v. let j = v.0 in p (cc)) (λ v. let j = v.0 in q (cc)) (starts w)) (coded e (takes_none _ _ f refl))
 
   -- others
-  quiet : {o : Outcome} → sort (decode k b) ≡ 5 → Fate from12 o → Fate from8 o
+  quiet : {o : Result Outcome ClientSessionError} → sort (decode k b) ≡ 5 → Fate from12 o → Fate from8 o
   quiet h f = skip8 (omega arith) (skip2 (omega arith) (skip4 (omega arith) (skip5 (omega arith) (skip6 (omega arith) (skip7 (omega arith) f)))))
 
   commands : {c : Command} → decode k b ≡ command c → (nm : CommandName) → name_of c.name ≡ nm → Spelt c.name nm →

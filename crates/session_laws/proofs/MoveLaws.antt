@@ -9,6 +9,7 @@ use mathlib.Core.List.{List, [], ◌∷◌}
 use lib.Dec.{leb}
 use lib.ListN.{length}
 use borrow.Author.Tests.{not-false, leb-false}
+use Rattle.std.specs.Prelude.{Option, Some, None}
 use Rattle.octets.proofs.BigEndianLaws.{be-digits}
 use Rattle.messages.specs.declared.ids.RtmpTimestamp.{RtmpTimestamp}
 use Rattle.messages.specs.declared.ids.StreamNumber.{StreamNumber}
@@ -21,12 +22,8 @@ use Rattle.session.specs.Calls.{Call, bytes, Message, Results, nothing}
 use Rattle.session.specs.Outcomes.{in_turn, sent_by}
 use Rattle.session.specs.Plan.{Plan, refuse, close, go, Check, in_order, if_long, if_spent, if_eight_open, request, stop, stopped, published, published_on, unless_stage, is_publishing, ping_plan, count, counted, counted_by}
 use Rattle.session.specs.declared.errors.ClientSessionError.{ClientSessionError}
-use Rattle.session.specs.declared.record.ActiveStream.{ActiveStream}
-use Rattle.session.specs.declared.record.ActiveStream.TheVariants as active
 use Rattle.session.specs.declared.record.ClientSession.{ClientSession}
 use Rattle.session.specs.declared.record.Link.{Link}
-use Rattle.session.specs.declared.record.PeerWindow.{PeerWindow}
-use Rattle.session.specs.declared.record.PeerWindow.TheVariants as window
 use Rattle.session.specs.declared.record.Progress.{Progress}
 use Rattle.session.specs.declared.state.ClientState.{ClientState}
 use Rattle.session.specs.declared.state.ClientState.TheVariants.{Disconnected, Connected}
@@ -105,7 +102,7 @@ pub same : (s : ClientSession) (c : Call) (rs : Results) → Quiet c → sum (se
 same s c rs k z = quiet s c rs s.progress s.requests s.link.chunk k z (λ h. h) (λ h. h) refl
 
 -- at Connected, or at Disconnected, without a stream
-pub streamless : (g : ClientState) → (g ≡ Disconnected) ⊎ (g ≡ Connected) → Streamed (record { state = g; active = active.None })
+pub streamless : (g : ClientState) → (g ≡ Disconnected) ⊎ (g ≡ Connected) → Streamed (record { state = g; active = None })
 streamless g h = record { below = λ x e. clash (cc); idle = λ e. h }
 
 module _ (s : ClientSession) (clock : RtmpTimestamp) (c : Call) where
@@ -134,20 +131,20 @@ module _ (s : ClientSession) (clock : RtmpTimestamp) (c : Call) where
       })
 
   module _ (k : Quiet c) where
-    stopped-on : (a : ActiveStream) → Good s c (stopped s clock a)
+    stopped-on : (a : Option StreamNumber) → Good s c (stopped s clock a)
     unfolding sum in_turn sent_by
-    stopped-on active.None = quiet s c _ _ _ _ k refl (λ h. streamless Connected (inr refl)) (λ h. h) refl
-    stopped-on (active.Some x) = quiet s c _ _ _ _ k refl (λ h. streamless Connected (inr refl)) (λ h. h) refl
+    stopped-on None = quiet s c _ _ _ _ k refl (λ h. streamless Connected (inr refl)) (λ h. h) refl
+    stopped-on (Some x) = quiet s c _ _ _ _ k refl (λ h. streamless Connected (inr refl)) (λ h. h) refl
 
     pub stops : (own : ClientState → Bool) → Good s c (stop s clock own)
     unfolding stop sum in_turn sent_by
     stops own = by_cases (own s.progress.state) (λ h. rw h (stopped-on s.progress.active)) (λ h. rw h (same s c nothing k refl))
 
     module _ (given : Check) (m : StreamNumber → Message) (h : closes given.says ≡ false) (z : (x : StreamNumber) → sum (m x ∷ []) ≡ 0) where
-      published-on : (a : ActiveStream) → Good s c (published_on s clock given m a)
+      published-on : (a : Option StreamNumber) → Good s c (published_on s clock given m a)
       unfolding in_turn sent_by
-      published-on active.None = refl
-      published-on (active.Some x) = good_check s c given _ _ h λ p. good-last s c _ (same s c _ k (z x))
+      published-on None = refl
+      published-on (Some x) = good_check s c given _ _ h λ p. good-last s c _ (same s c _ k (z x))
 
       pub publishes : Good s c (published s clock given m)
       unfolding published
@@ -174,10 +171,10 @@ module _ (s : ClientSession) (clock : RtmpTimestamp) (n : ℕ) where
         sets = sym (or-false (is_set s.link.window));
       }
 
-  counts-by : (o : PeerWindow) → s.link.window ≡ o → Good s (bytes n) (counted_by s clock n o)
+  counts-by : (o : Option ℕ) → s.link.window ≡ o → Good s (bytes n) (counted_by s clock n o)
   unfolding sum in_turn sent_by
-  counts-by window.None e = counted-on nothing _ (λ w. w.pending_below) (rw e (omega arith))
-  counts-by (window.Some v) e =
+  counts-by None e = counted-on nothing _ (λ w. w.pending_below) (rw e (omega arith))
+  counts-by (Some v) e =
       by_cases (leb v (s.link.pending + n))
       (λ h. rw h (counted-on _ 0 (λ w. omega arith) (rw (e, be-digits 4 ((s.link.pending + n) % 2 ^ 32) (omega arith)) (omega arith))))
       (λ h. rw h (counted-on nothing _ (λ w. omega (arith, leb-false v (s.link.pending + n) h, w.window_below v e)) (rw e (omega arith))))

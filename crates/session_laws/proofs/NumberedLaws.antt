@@ -3,12 +3,12 @@
 use Prim.Native.Nat.{ℕ, ◌+◌, ◌^◌, ◌<◌}
 use native.Mathlib.Omega.{arith}
 use mathlib.Core.Path.{◌≡◌, refl, ap, subst}
-use mathlib.Core.Bool.{Bool, true, false, cond, not, ◌&&◌, ◌||◌}
+use mathlib.Core.Bool.{Bool, true, false, cond, ◌&&◌}
 use mathlib.Core.List.{List, [], ◌∷◌}
-use mathlib.Core.Option.{some}
 use lib.Dec.{ltb}
 use lib.ListN.{length}
 use borrow.Author.Tests.{leb-false, not-false}
+use Rattle.std.specs.Prelude.{is_some, Option, Some, None}
 use Rattle.messages.specs.declared.ids.RtmpTimestamp.{RtmpTimestamp}
 use Rattle.bodies.specs.Sent.{request_number}
 use Rattle.bodies.proofs.CommandRound.{Sendable}
@@ -22,7 +22,7 @@ use Rattle.requests.proofs.TextLaws.{fits-length, fits-utf8, text-sound}
 use Rattle.session.specs.Calls.{Call, connect, play, publish, stop_playback, stop_publishing, ping, picture, sound, metadata, bytes, message, plain, sends, one}
 use Rattle.session.specs.Outcomes.{in_turn, sent_by, output}
 use Rattle.session.specs.Plan.{Plan, go, Check, in_order, if_long, if_spent, if_eight_open, connect_next, request}
-use Rattle.session.specs.Record.{texts_sound, chunk_sound, is_session, fresh, open_of}
+use Rattle.session.specs.Record.{url_sound, url_of, texts_sound, chunk_sound, is_session, fresh, open_of}
 use Rattle.session.specs.Step.{Stepped, fitted, plan, step}
 use Rattle.session.specs.declared.config.ClientSessionConfig.{ClientSessionConfig}
 use Rattle.session.specs.declared.record.ClientSession.{ClientSession}
@@ -31,7 +31,6 @@ use Rattle.session_laws.specs.Lines.{Turn, Line, step_of, line_of, lines, after}
 use Rattle.session_laws.specs.Numbered.{asks, all_given, Rises, Sends, SendsNext, FromOne}
 use Rattle.session_laws.specs.Refusals.{is_refused}
 use Rattle.session_laws.proofs.DecideLaws.{clash}
-use Rattle.session_laws.proofs.OrderLaws.{results_pass}
 use Rattle.session_laws.proofs.SentLaws.{reads_back}
 use Rattle.session_laws.proofs.StepLaws.{Went, stays, shuts, moves, went}
 use Rattle.session_laws.proofs.AcknowledgedLaws.{open_is}
@@ -44,7 +43,7 @@ rises_went : (s : ClientSession) (c : Call) {old : List ℕ} (r : Stepped) → W
     r.session.requests.next ≡ s.requests.next + cond (is_refused r.outcome) 0 (asks c)
 rises_went s c r (stays e h) = omega arith
 rises_went s c r (shuts e t h w m) = omega (arith, shut_next w)
-rises_went s c r (moves rs t m) = rw (results_pass rs) m.next
+rises_went s c r (moves rs t m) = m.next
 
 pub rises : Rises
 rises s t = rises_went s t.call (step_of s t) (went s t.call t.lent t.clock)
@@ -68,7 +67,7 @@ module _ (s : ClientSession) (clock : RtmpTimestamp) (c : Call) (old : List ℕ)
   unfolding fitted in_order
   numbers-or k ks p f q = by_cases k.when (λ h. let z = rw h at q in clash (cc)) (λ h. rw h (f h (rw h at q)))
 
-  numbers-go : (body : List ℕ) (t : ClientSession) → request_number 20 body ≡ some s.requests.next →
+  numbers-go : (body : List ℕ) (t : ClientSession) → request_number 20 body ≡ Some s.requests.next →
       Numbers (fitted s old (in_order [] (go (one (sends (plain 20 clock body))) t)))
   unfolding fitted in_order in_turn sent_by
   numbers-go body t e q =
@@ -76,7 +75,7 @@ module _ (s : ClientSession) (clock : RtmpTimestamp) (c : Call) (old : List ℕ)
       (λ h. rw h (record { one = plain 20 clock body; sent = reads_back old (one (sends (plain 20 clock body))); number = e }))
 
   numbers : (own : Check) (kind : OutstandingTransaction) (t body : List ℕ) →
-      (fits t ≡ true → s.requests.next < 2 ^ 32 → request_number 20 body ≡ some s.requests.next) →
+      (fits t ≡ true → s.requests.next < 2 ^ 32 → request_number 20 body ≡ Some s.requests.next) →
       Numbers (fitted s old (request s clock own kind t body))
   unfolding request
   numbers own kind t body f =
@@ -97,18 +96,18 @@ session-texts : (s : ClientSession) → is_session s ≡ true → texts_sound s.
 unfolding is_session
 session-texts s h = and_left (texts_sound s.config) _ (and_left (texts_sound s.config && chunk_sound s.config.chunk_size) _ h)
 
-configured : (has b : Bool) → (not has || b) ≡ true → has ≡ true → b ≡ true
-configured true b h e = h
-configured false b h e = cc
+url-sendable : (o : Option Text) → url_sound o ≡ true → is_some o ≡ true → Sendable (url_of o)
+url-sendable None h e = clash (cc)
+url-sendable (Some t) h e = sound-sendable t h
 
 connect-sends : (s : ClientSession) (app : List ℕ) → is_session s ≡ true → fits app ≡ true → s.requests.next < 2 ^ 32 →
-    request_number 20 (connect_next s app) ≡ some s.requests.next
+    request_number 20 (connect_next s app) ≡ Some s.requests.next
 unfolding texts_sound
 connect-sends s app h f n =
     let w = session-texts s h in
     connect-number s.requests.next app _ _ _ (fits-sendable app f)
     (sound-sendable s.config.flash_version (and_left (text_sound s.config.flash_version) _ w))
-    (λ e. sound-sendable s.config.tc_url (configured s.config.has_tc_url _ (and_right (text_sound s.config.flash_version) _ w) e))
+    (url-sendable s.config.tc_url (and_right (text_sound s.config.flash_version) _ w))
     n
 
 module _ (s : ClientSession) (clock : RtmpTimestamp) (old : List ℕ) (h : is_session s ≡ true) where

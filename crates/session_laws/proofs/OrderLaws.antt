@@ -8,30 +8,30 @@ use mathlib.Core.Bool.{Bool, true, false, cond, not}
 use mathlib.Core.List.{List, [], ◌∷◌}
 use lib.Dec.{ltb}
 use lib.ListN.{length}
+use Rattle.std.specs.Prelude.{Result, Err}
 use Rattle.requests.proofs.BoolLaws.{by_cases}
-use Rattle.session.specs.Calls.{Call, Results, nothing, one, two, accepts, pinged}
-use Rattle.session.specs.Outcomes.{output, outcome_of}
+use Rattle.session.specs.Calls.{Call, Results}
+use Rattle.session.specs.Outcomes.{output}
 use Rattle.session.specs.Plan.{Plan, refuse, close, go, Check, in_order}
 use Rattle.session.specs.Step.{Stepped, fitted}
 use Rattle.session.specs.declared.errors.ClientSessionError.{ClientSessionError}
 use Rattle.session.specs.declared.errors.ClientSessionError.TheVariants.{Space}
 use Rattle.session.specs.declared.record.ClientSession.{ClientSession}
 use Rattle.session.specs.declared.result.Outcome.{Outcome}
-use Rattle.session.specs.declared.result.Outcome.TheVariants.{Refused}
 use Rattle.session_laws.specs.Order.{Row, ◌if◌, First, NoneOf}
 use Rattle.session_laws.specs.Refusals.{is_refused, Exactly}
 use Rattle.session_laws.specs.Space.{Takes, Short}
 use Rattle.session_laws.proofs.DecideLaws.{Decides, true_false, decides_lt}
 
 -- what a walk comes to: the first refusal, which is given, or a success
-pub data Fate (rows : List Row) (o : Outcome) : Type 0 where
-  away : (e : ClientSessionError) → First rows e → o ≡ Refused e → Fate rows o
+pub data Fate (rows : List Row) (o : Result Outcome ClientSessionError) : Type 0 where
+  away : (e : ClientSessionError) → First rows e → o ≡ Err e → Fate rows o
   passed : NoneOf rows → is_refused o ≡ false → Fate rows o
 
-pub hit : {r : Row} {rows : List Row} {o : Outcome} → r.when → o ≡ Refused r.says → Fate (r ∷ rows) o
+pub hit : {r : Row} {rows : List Row} {o : Result Outcome ClientSessionError} → r.when → o ≡ Err r.says → Fate (r ∷ rows) o
 hit {r} p h = away r.says (inl (p, refl)) h
 
-pub miss : {r : Row} {rows : List Row} {o : Outcome} → ¬ r.when → Fate rows o → Fate (r ∷ rows) o
+pub miss : {r : Row} {rows : List Row} {o : Result Outcome ClientSessionError} → ¬ r.when → Fate rows o → Fate (r ∷ rows) o
 miss n (away e f h) = away e (inr (n, f)) h
 miss n (passed w h) = passed (n, w) h
 
@@ -47,13 +47,13 @@ none_first [] e n f = f
 none_first (r ∷ rs) e n (inl f) = n.0 f.0
 none_first (r ∷ rs) e n (inr f) = none_first rs e n.1 f.1
 
-pub refused_true : {o : Outcome} {e : ClientSessionError} → o ≡ Refused e → is_refused o ≡ true
+pub refused_true : {o : Result Outcome ClientSessionError} {e : ClientSessionError} → o ≡ Err e → is_refused o ≡ true
 refused_true h = ap is_refused h
 
-pub exact : {rows : List Row} {o : Outcome} → Fate rows o → Exactly rows o
+pub exact : {rows : List Row} {o : Result Outcome ClientSessionError} → Fate rows o → Exactly rows o
 exact {rows} (away e f h) =
     record {
-      turned_away = λ d. (λ k. let q : e ≡ d = cc in rw q at f, λ g. h ∙ ap Refused (first_one rows f g));
+      turned_away = λ d. (λ k. let q : e ≡ d = cc in rw q at f, λ g. h ∙ ap Err (first_one rows f g));
       passes = (λ k. true_false (refused_true h) k, λ n. absurd (none_first rows e n f));
     }
 exact {rows} (passed n h) =
@@ -63,20 +63,12 @@ exact {rows} (passed n h) =
     }
 
 -- a test of what f reads an outcome from
-module _ {A : Type 0} (f : A → Outcome) (b : Bool) (x y : A) {r : Row} {rows : List Row} where
-  pub turned_if : Decides b r.when → f x ≡ Refused r.says → (b ≡ false → Fate rows (f y)) → Fate (r ∷ rows) (f (cond b x y))
+module _ {A : Type 0} (f : A → Result Outcome ClientSessionError) (b : Bool) (x y : A) {r : Row} {rows : List Row} where
+  pub turned_if : Decides b r.when → f x ≡ Err r.says → (b ≡ false → Fate rows (f y)) → Fate (r ∷ rows) (f (cond b x y))
   turned_if d h k = by_cases b (λ e. rw e (hit (d.holds e) h)) (λ e. rw e (miss (d.fails e) (k e)))
 
-  pub turned_unless : Decides (not b) r.when → f x ≡ Refused r.says → (b ≡ true → Fate rows (f y)) → Fate (r ∷ rows) (f (cond b y x))
+  pub turned_unless : Decides (not b) r.when → f x ≡ Err r.says → (b ≡ true → Fate rows (f y)) → Fate (r ∷ rows) (f (cond b y x))
   turned_unless d h k = by_cases b (λ e. rw e (miss (d.fails (ap not e)) (k e))) (λ e. rw e (hit (d.holds (ap not e)) h))
-
-pub results_pass : (rs : Results) → is_refused (outcome_of rs) ≡ false
-unfolding outcome_of
-results_pass nothing = refl
-results_pass (one a) = refl
-results_pass (two a b) = refl
-results_pass (accepts a b) = refl
-results_pass (pinged a t) = refl
 
 -- how much a plan writes
 abbrev pub planned : Plan → ℕ
@@ -85,7 +77,7 @@ planned (close e s) = 0
 planned (go rs s) = length (output rs)
 
 module _ (s : ClientSession) (old : List ℕ) where
-  abbrev pub answer : Plan → Outcome
+  abbrev pub answer : Plan → Result Outcome ClientSessionError
   answer p = (fitted s old p).outcome
 
   pub checked : (k : Check) (ks : List Check) (p : Plan) {w : Type 0} {rows : List Row} →
@@ -109,4 +101,4 @@ module _ (s : ClientSession) (old : List ℕ) where
         fails = λ h w. let e = only w.0 w.1 in (decides_lt (length old) (length (output rs))).fails h (omega arith);
       })
       refl
-      (λ h. passed tt (results_pass rs))
+      (λ h. passed tt refl)

@@ -7,6 +7,7 @@ use mathlib.Core.Path.{◌≡◌, refl, ap, ap₂, ◌∙◌}
 use mathlib.Core.List.{List, [], ◌∷◌, ◌++◌, append_assoc}
 use lib.ListN.{length, take, drop, length-append}
 use lib.Seq.{take_at, drop_at}
+use Rattle.std.specs.Prelude.{Ok}
 use Rattle.octets.specs.Compare.{part}
 use Rattle.session.specs.Calls.{Message, Result, sends, raises, unhandled, Results, nothing, one, two, accepts, pinged}
 use Rattle.session.specs.Outcomes.{in_turn, sent_by, bodies, output, written, answered, taken, outcome_of}
@@ -18,7 +19,7 @@ answers_from : ℕ → List Result → List ClientSessionResult
 answers_from at [] = []
 answers_from at (r ∷ rs) = answered at r ∷ answers_from (at + taken r) rs
 
-answers-are : (rs : Results) → results_of (outcome_of rs) ≡ answers_from 0 (in_turn rs)
+answers-are : (rs : Results) → results_of (Ok (outcome_of rs)) ≡ answers_from 0 (in_turn rs)
 unfolding outcome_of results_of in_turn answers_from
 answers-are nothing = refl
 answers-are (one a) = refl
@@ -47,5 +48,5 @@ read-from (sends m ∷ rs) pre post at h =
 read-from (raises e ∷ rs) pre post at h = read-from rs pre post (at + 0) (omega arith)
 read-from (unhandled t ∷ rs) pre post at h = read-from rs pre post (at + 0) (omega arith)
 
-pub reads_back : (old : List ℕ) (rs : Results) → messages_in (written old rs) (results_of (outcome_of rs)) ≡ sent_by (in_turn rs)
+pub reads_back : (old : List ℕ) (rs : Results) → messages_in (written old rs) (results_of (Ok (outcome_of rs))) ≡ sent_by (in_turn rs)
 reads_back old rs = rw (answers-are rs) (read-from (in_turn rs) [] (drop (length (output rs)) old) 0 refl)

@@ -4,5 +4,5 @@ use mathlib.Core.Path.{◌≡◌, refl}
 use prog.Memory.{size}
 use Rattle.session.proofs.record.ClientSession.TheLaws as session
 
-pub session-size : size session.mir ≡ 2832
+pub session-size : size session.mir ≡ 2840
 session-size = refl

@@ -9,6 +9,7 @@ use mathlib.Core.List.{List}
 use borrow.Author.Tests.{le-ltb}
 use lib.Dec.{ltb}
 use lib.ListN.{length}
+use Rattle.std.specs.Prelude.{Err, Ok}
 use Rattle.messages.specs.declared.ids.RtmpTimestamp.{RtmpTimestamp}
 use Rattle.requests.proofs.BoolLaws.{by_cases, and_left, and_right}
 use Rattle.requests.proofs.TableLaws.{length_none, none-sound}
@@ -22,18 +23,17 @@ use Rattle.session.specs.declared.config.ClientSessionConfig.{ClientSessionConfi
 use Rattle.session.specs.declared.errors.ClientSessionError.{ClientSessionError}
 use Rattle.session.specs.declared.errors.ClientSessionError.TheVariants.{Space, NotASession}
 use Rattle.session.specs.declared.record.ClientSession.{ClientSession}
-use Rattle.session.specs.declared.result.Outcome.TheVariants.{Refused}
 use Rattle.session_laws.specs.Kept.{closes, ClosesBy, Kept, EveryRefusal}
 use Rattle.session_laws.specs.Sound.{Sound, Within, OfBytes, Opened, FromOpening, StaysSound, StaysWithin}
 use Rattle.session_laws.proofs.DecideLaws.{clash, true_false}
-use Rattle.session_laws.proofs.OrderLaws.{results_pass, refused_true}
+use Rattle.session_laws.proofs.OrderLaws.{refused_true}
 use Rattle.session_laws.proofs.MoveLaws.{Moved, Good, streamless}
 use Rattle.session_laws.proofs.ArrivalLaws.{good}
 
 pub data Went (s : ClientSession) (c : Call) (old : List ℕ) : Stepped → Type 0 where
   stays : (e : ClientSessionError) → closes e ≡ false → Went s c old (away e s old)
   shuts : (e : ClientSessionError) (t : ClientSession) → closes e ≡ true → ClosesBy s c t → Moved s c nothing t → Went s c old (away e t old)
-  moves : (rs : Results) (t : ClientSession) → Moved s c rs t → Went s c old (record { outcome = outcome_of rs; session = t; output = written old rs })
+  moves : (rs : Results) (t : ClientSession) → Moved s c rs t → Went s c old (record { outcome = Ok (outcome_of rs); session = t; output = written old rs })
 
 module _ (s : ClientSession) (c : Call) (old : List ℕ) where
   went-fitted : (p : Plan) → Good s c p → Went s c old (fitted s old p)
@@ -46,12 +46,12 @@ module _ (s : ClientSession) (c : Call) (old : List ℕ) where
   unfolding step
   went clock = by_cases (is_session s) (λ h. rw h (went-fitted (plan s clock c) (good s clock c))) (λ h. rw h (stays NotASession refl))
 
-  keeps : (e : ClientSessionError) (r : Stepped) → Went s c old r → r.outcome ≡ Refused e → Kept s c old e r
+  keeps : (e : ClientSessionError) (r : Stepped) → Went s c old r → r.outcome ≡ Err e → Kept s c old e r
   keeps e r (stays d h) q =
       let p : d ≡ e = cc in record { output_stays = refl; session_stays = λ k. refl; request_closed = λ k. true_false k (ap closes (sym p) ∙ h) }
   keeps e r (shuts d t h w m) q =
       let p : d ≡ e = cc in record { output_stays = refl; session_stays = λ k. true_false (ap closes (sym p) ∙ h) k; request_closed = λ k. w }
-  keeps e r (moves rs t m) q = true_false (refused_true q) (results_pass rs)
+  keeps e r (moves rs t m) q = true_false (refused_true q) refl
 
 pub every_refusal : EveryRefusal
 every_refusal s clock c old e q = keeps s c old e (step s clock c old) (went s c old clock) q
@@ -59,7 +59,7 @@ every_refusal s clock c old e q = keeps s c old e (step s clock c old) (went s c
 -- a plan that goes on where there is space
 pub step-go : (s : ClientSession) (clock : RtmpTimestamp) (c : Call) (old : List ℕ) (rs : Results) (t : ClientSession) →
     is_session s ≡ true → plan s clock c ≡ go rs t → length (output rs) ≤ length old →
-    step s clock c old ≡ record { outcome = outcome_of rs; session = t; output = written old rs }
+    step s clock c old ≡ record { outcome = Ok (outcome_of rs); session = t; output = written old rs }
 unfolding step fitted
 step-go s clock c old rs t h e l = rw (h, e, le-ltb (length old) (length (output rs)) l)
 

@@ -1,7 +1,7 @@
 -- Acknowledgements (document 01, "The session's work", Bytes): modulo 2^32, the numbers of all acknowledgements plus pending equal the bytes
 -- counted since the first window.
 -- Assumes nothing.
-use Rattle.std.specs.Prelude.{ℕ, ◌+◌, ◌%◌, ◌^◌, ◌≤◌, ◌<◌, ◌≡◌, Bool, true, false, cond, ◌||◌, List, [], ◌∷◌, eqb, length}
+use Rattle.std.specs.Prelude.{ℕ, ◌+◌, ◌%◌, ◌^◌, ◌≤◌, ◌<◌, ◌≡◌, Bool, true, false, cond, ◌||◌, List, [], ◌∷◌, eqb, length, Ok, Option, Some, None}
 use Rattle.octets.specs.BigEndian.{be, digits}
 use Rattle.messages.specs.Incoming.{window_size, decode}
 use Rattle.messages.specs.declared.ids.RtmpTimestamp.{RtmpTimestamp}
@@ -11,8 +11,6 @@ use Rattle.session.specs.Record.{is_session, open_of}
 use Rattle.session.specs.Step.{Stepped, step}
 use Rattle.session.specs.declared.config.ClientSessionConfig.{ClientSessionConfig}
 use Rattle.session.specs.declared.record.ClientSession.{ClientSession}
-use Rattle.session.specs.declared.record.PeerWindow.{PeerWindow}
-use Rattle.session.specs.declared.record.PeerWindow.TheVariants as window
 use Rattle.session.specs.declared.result.Outcome.TheVariants.{Nothing}
 use Rattle.session_laws.specs.Refusals.{is_refused}
 use Rattle.session_laws.specs.Lines.{Turn, Line, step_of, line_of, lines, after, sent_on}
@@ -63,14 +61,14 @@ unfoldable pub since : Bool → List Line → ℕ
 since set [] = 0
 since set (l ∷ ls) = cond (is_refused l.outcome) (since set ls) (cond set (counts l.call) 0 + since (set || sets_window l.call) ls)
 
-abbrev pub is_set : PeerWindow → Bool
-is_set window.None = false
-is_set (window.Some w) = true
+abbrev pub is_set : Option ℕ → Bool
+is_set None = false
+is_set (Some w) = true
 
 -- for every list of calls, from opening and from any session
 abbrev pub Sum : Type 0
 Sum =
-    (c : ClientSessionConfig) → (open_of c).outcome ≡ Nothing → (ts : List Turn) →
+    (c : ClientSessionConfig) → (open_of c).outcome ≡ Ok Nothing → (ts : List Turn) →
     (acknowledged (lines (open_of c).session ts) + (after (open_of c).session ts).link.pending) % 2 ^ 32
     ≡ since false (lines (open_of c).session ts) % 2 ^ 32
 
@@ -109,11 +107,11 @@ module _ (s : ClientSession) (clock : RtmpTimestamp) (n : ℕ) (old : List ℕ) 
 
 -- by the window. A sum past 32 bits has reached every window, and window 0 is always reached
 pub record ByWindow (s : ClientSession) (clock : RtmpTimestamp) (n : ℕ) (old : List ℕ) : Type 0 where
-  pub no_window : s.link.window ≡ window.None → Silent s clock n old s.link.pending
-  pub not_reached : (w : ℕ) → s.link.window ≡ window.Some w → s.link.pending + n < w → Silent s clock n old (s.link.pending + n)
-  pub reached : (w : ℕ) → s.link.window ≡ window.Some w → w ≤ s.link.pending + n → Acknowledges s clock n old
-  pub past : (w : ℕ) → s.link.window ≡ window.Some w → w < 2 ^ 32 → 2 ^ 32 ≤ s.link.pending + n → Acknowledges s clock n old
-  pub window_zero : s.link.window ≡ window.Some 0 → Acknowledges s clock n old
+  pub no_window : s.link.window ≡ None → Silent s clock n old s.link.pending
+  pub not_reached : (w : ℕ) → s.link.window ≡ Some w → s.link.pending + n < w → Silent s clock n old (s.link.pending + n)
+  pub reached : (w : ℕ) → s.link.window ≡ Some w → w ≤ s.link.pending + n → Acknowledges s clock n old
+  pub past : (w : ℕ) → s.link.window ≡ Some w → w < 2 ^ 32 → 2 ^ 32 ≤ s.link.pending + n → Acknowledges s clock n old
+  pub window_zero : s.link.window ≡ Some 0 → Acknowledges s clock n old
 
 abbrev pub EveryCount : Type 0
 EveryCount = (s : ClientSession) (clock : RtmpTimestamp) (n : ℕ) (old : List ℕ) → is_session s ≡ true → 4 ≤ length old → ByWindow s clock n old
@@ -122,9 +120,9 @@ EveryCount = (s : ClientSession) (clock : RtmpTimestamp) (n : ℕ) (old : List �
 pub record SetsWindow (s : ClientSession) (b : List ℕ) (old : List ℕ) (r : Stepped) : Type 0 where
   pub size : ℕ
   pub says : decode 5 b ≡ window_size size
-  pub outcome_is : r.outcome ≡ Nothing
+  pub outcome_is : r.outcome ≡ Ok Nothing
   pub output_stays : r.output ≡ old
-  pub window_is : r.session.link.window ≡ window.Some size
+  pub window_is : r.session.link.window ≡ Some size
   pub pending_stays : r.session.link.pending ≡ s.link.pending
 
 abbrev pub EveryWindow : Type 0

@@ -1,16 +1,17 @@
 -- Calls one after the other, and what is known of each afterwards: the call, its outcome and the output as it was left.
 -- Assumes nothing.
-use Rattle.std.specs.Prelude.{ℕ, List, [], ◌∷◌}
+use Rattle.std.specs.Prelude.{ℕ, List, [], ◌∷◌, Result, Ok, Err}
 use Rattle.octets.specs.Compare.{part}
 use Rattle.messages.specs.declared.ids.RtmpTimestamp.{RtmpTimestamp}
 use Rattle.session.specs.Calls.{Call, Message}
 use Rattle.session.specs.Step.{Stepped, step}
+use Rattle.session.specs.declared.errors.ClientSessionError.{ClientSessionError}
 use Rattle.session.specs.declared.events.ClientSessionEvent.TheVariants.{ConnectionRequestAccepted}
 use Rattle.session.specs.declared.record.ClientSession.{ClientSession}
 use Rattle.session.specs.declared.result.ClientSessionResult.{ClientSessionResult}
 use Rattle.session.specs.declared.result.ClientSessionResult.TheVariants.{OutboundResponse, RaisedEvent, UnhandleableMessageReceived}
 use Rattle.session.specs.declared.result.Outcome.{Outcome}
-use Rattle.session.specs.declared.result.Outcome.TheVariants.{Refused, Nothing, One, Two, Accepted, Pinged}
+use Rattle.session.specs.declared.result.Outcome.TheVariants.{Nothing, One, Two, Accepted, Pinged}
 use Rattle.session.specs.declared.result.Packet.{Packet}
 
 -- the clock, the call and the lent output
@@ -21,7 +22,7 @@ pub record Turn : Type 0 where
 
 pub record Line : Type 0 where
   pub call : Call
-  pub outcome : Outcome
+  pub outcome : Result Outcome ClientSessionError
   pub output : List ℕ
 
 abbrev pub step_of : ClientSession → Turn → Stepped
@@ -40,13 +41,13 @@ after s [] = s
 after s (t ∷ ts) = after (step_of s t).session ts
 
 -- the messages that an outcome's packets are, with their bodies read from the output
-unfoldable pub results_of : Outcome → List ClientSessionResult
-results_of (Refused e) = []
-results_of Nothing = []
-results_of (One a) = a ∷ []
-results_of (Two a b) = OutboundResponse a ∷ OutboundResponse b ∷ []
-results_of (Accepted a b) = OutboundResponse a ∷ RaisedEvent ConnectionRequestAccepted ∷ OutboundResponse b ∷ []
-results_of (Pinged a t) = OutboundResponse a ∷ []
+unfoldable pub results_of : Result Outcome ClientSessionError → List ClientSessionResult
+results_of (Err e) = []
+results_of (Ok Nothing) = []
+results_of (Ok (One a)) = a ∷ []
+results_of (Ok (Two a b)) = OutboundResponse a ∷ OutboundResponse b ∷ []
+results_of (Ok (Accepted a b)) = OutboundResponse a ∷ RaisedEvent ConnectionRequestAccepted ∷ OutboundResponse b ∷ []
+results_of (Ok (Pinged a t)) = OutboundResponse a ∷ []
 
 abbrev pub message_at : List ℕ → Packet → Message
 message_at out p =

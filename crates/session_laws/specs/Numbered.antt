@@ -1,7 +1,6 @@
 -- Numbers for requests start at 1 and rise by 1 (document 01, "The session's work").
 -- Assumes nothing.
-use Rattle.std.specs.Prelude.{ℕ, ◌+◌, ◌≡◌, cond, List, [], ◌∷◌}
-use Rattle.std.proofs.Math.Option.{some}
+use Rattle.std.specs.Prelude.{ℕ, ◌+◌, ◌≡◌, cond, List, [], ◌∷◌, Ok, Some}
 use Rattle.bodies.specs.Sent.{request_number}
 use Rattle.session.specs.Calls.{Call, connect, play, publish, stop_playback, stop_publishing, ping, picture, sound, metadata, bytes, message, Message}
 use Rattle.session.specs.Record.{open_of}
@@ -41,7 +40,7 @@ Rises = (s : ClientSession) (t : Turn) → (step_of s t).session.requests.next �
 pub record Sends (l : Line) (n : ℕ) : Type 0 where
   pub one : Message
   pub sent : sent_on l ≡ one ∷ []
-  pub number : request_number one.type_id one.body ≡ some n
+  pub number : request_number one.type_id one.body ≡ Some n
 
 -- a request that isn't turned away sends the number that was due
 abbrev pub SendsNext : Type 0
@@ -50,6 +49,6 @@ SendsNext = (s : ClientSession) (t : Turn) → given (line_of s t) ≡ 1 → Sen
 -- from opening: one more than the requests before it that weren't turned away
 abbrev pub FromOne : Type 0
 FromOne =
-    (c : ClientSessionConfig) → (open_of c).outcome ≡ Nothing → (ts : List Turn) (t : Turn) →
+    (c : ClientSessionConfig) → (open_of c).outcome ≡ Ok Nothing → (ts : List Turn) (t : Turn) →
     given (line_of (after (open_of c).session ts) t) ≡ 1 →
     Sends (line_of (after (open_of c).session ts) t) (1 + all_given (lines (open_of c).session ts))

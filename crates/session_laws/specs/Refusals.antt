@@ -1,7 +1,7 @@
 -- Document 01's table of turned-away calls, call by call in its order, and that each refusal is given exactly when its condition is the first
 -- to hold.
 -- Assumes nothing.
-use Rattle.std.specs.Prelude.{ℕ, ◌≤◌, ◌<◌, ◌≡◌, ◌↔◌, ◌≢◌, ◌⊎◌, Bool, true, false, List, [], ◌∷◌, ◌++◌, length}
+use Rattle.std.specs.Prelude.{ℕ, ◌≤◌, ◌<◌, ◌≡◌, ◌↔◌, ◌≢◌, ◌⊎◌, Bool, true, false, List, [], ◌∷◌, ◌++◌, length, Result, Ok, Err, None}
 use Rattle.amf0.specs.Places.{stretch}
 use Rattle.messages.specs.Incoming.{decode, malformed}
 use Rattle.messages.specs.declared.ids.RtmpTimestamp.{RtmpTimestamp}
@@ -12,27 +12,21 @@ use Rattle.session.specs.Step.{step}
 use Rattle.session.specs.declared.config.ClientSessionConfig.{ClientSessionConfig}
 use Rattle.session.specs.declared.errors.ClientSessionError.{ClientSessionError}
 use Rattle.session.specs.declared.errors.ClientSessionError.TheVariants.{CantConnectWhileAlreadyConnected, SessionInInvalidState, NoKnownActiveStreamIdWhenRequired, CreateStreamFailed, CreateStreamResponseHadNoStreamNumber, InvalidOnStatusArguments, InvalidMaxChunkSize, MalformedBody, Length, EightOpen, Spent, Space, NotASession}
-use Rattle.session.specs.declared.record.ActiveStream.TheVariants as active
 use Rattle.session.specs.declared.record.ClientSession.{ClientSession}
 use Rattle.session.specs.declared.result.Outcome.{Outcome}
-use Rattle.session.specs.declared.result.Outcome.TheVariants.{Refused, Nothing, One, Two, Accepted, Pinged}
 use Rattle.session.specs.declared.state.ClientState.TheVariants.{Disconnected, Connected, Publishing}
 use Rattle.session_laws.specs.Order.{Row, ◌if◌, First, NoneOf, OneAtMost}
-use Rattle.session_laws.specs.Conditions.{Unfit, UnfitText, LargeChunk, stage, NoSession, WrongStage, NotCreated, NoStreamNumber, BadNotice, PeerChunk}
+use Rattle.session_laws.specs.Conditions.{Unfit, UnfitText, UnfitUrl, LargeChunk, stage, NoSession, WrongStage, NotCreated, NoStreamNumber, BadNotice, PeerChunk}
 use Rattle.session_laws.specs.Space.{Short}
 
-abbrev pub is_refused : Outcome → Bool
-is_refused (Refused e) = true
-is_refused Nothing = false
-is_refused (One a) = false
-is_refused (Two a b) = false
-is_refused (Accepted a b) = false
-is_refused (Pinged a t) = false
+abbrev pub is_refused : Result Outcome ClientSessionError → Bool
+is_refused (Err e) = true
+is_refused (Ok o) = false
 
 -- opening: 9, 7
 abbrev pub opening : ClientSessionConfig → List Row
 opening c =
-    Length if (UnfitText c.flash_version ⊎ ((c.has_tc_url ≡ true) × UnfitText c.tc_url))
+    Length if (UnfitText c.flash_version ⊎ UnfitUrl c.tc_url)
     ∷ InvalidMaxChunkSize if LargeChunk c.chunk_size
     ∷ []
 
@@ -47,7 +41,7 @@ asking s t rows =
 abbrev pub sending : ClientSession → Type 0 → List Row → List Row
 sending s long rows =
     SessionInInvalidState (stage s) if (stage s ≢ Publishing)
-    ∷ NoKnownActiveStreamIdWhenRequired if (s.progress.active ≡ active.None) ∷ Length if long
+    ∷ NoKnownActiveStreamIdWhenRequired if (s.progress.active ≡ None) ∷ Length if long
     ∷ rows
 
 abbrev pub LongBody : List ℕ → Type 0
@@ -81,8 +75,8 @@ abbrev pub table : ClientSession → Call → List ℕ → List Row
 table s c old = NotASession if NoSession s ∷ between s c (Space if Short s c old ∷ [])
 
 -- the outcome of every call is the refusal that is first in the table, and a success exactly if no condition holds
-pub record Exactly (rows : List Row) (outcome : Outcome) : Type 0 where
-  pub turned_away : (e : ClientSessionError) → (outcome ≡ Refused e) ↔ First rows e
+pub record Exactly (rows : List Row) (outcome : Result Outcome ClientSessionError) : Type 0 where
+  pub turned_away : (e : ClientSessionError) → (outcome ≡ Err e) ↔ First rows e
   pub passes : (is_refused outcome ≡ false) ↔ NoneOf rows
 
 abbrev pub EveryCall : Type 0

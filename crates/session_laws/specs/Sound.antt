@@ -1,6 +1,6 @@
 -- What holds of a session from opening on, and that no call breaks it. So refusals 13 and 3 never come up.
 -- Assumes nothing.
-use Rattle.std.specs.Prelude.{ℕ, ◌<◌, ◌^◌, ◌≡◌, ◌≢◌, ◌⊎◌, true, length}
+use Rattle.std.specs.Prelude.{ℕ, ◌<◌, ◌^◌, ◌≡◌, ◌≢◌, ◌⊎◌, true, length, Result, Ok, Err, Some, None}
 use mathlib.Core.List.{List, Memᴰ}
 use Rattle.octets.specs.BigEndian.{Bytes}
 use Rattle.messages.specs.declared.ids.RtmpTimestamp.{RtmpTimestamp}
@@ -8,22 +8,21 @@ use Rattle.messages.specs.declared.ids.StreamNumber.{StreamNumber}
 use Rattle.session.specs.Calls.{Call, connect, play, publish, stop_playback, stop_publishing, ping, picture, sound, metadata, bytes, message}
 use Rattle.session.specs.Record.{is_session, open_of}
 use Rattle.session.specs.Step.{step}
+use Rattle.session.specs.declared.errors.ClientSessionError.{ClientSessionError}
 use Rattle.session.specs.declared.config.ClientSessionConfig.{ClientSessionConfig}
 use Rattle.session.specs.declared.errors.ClientSessionError.TheVariants.{NoKnownActiveStreamIdWhenRequired, NotASession}
-use Rattle.session.specs.declared.record.ActiveStream.TheVariants as active
 use Rattle.session.specs.declared.record.ClientSession.{ClientSession}
 use Rattle.session.specs.declared.record.Link.{Link}
-use Rattle.session.specs.declared.record.PeerWindow.TheVariants as window
 use Rattle.session.specs.declared.record.Progress.{Progress}
 use Rattle.session.specs.declared.result.Outcome.{Outcome}
-use Rattle.session.specs.declared.result.Outcome.TheVariants.{Refused, Nothing}
+use Rattle.session.specs.declared.result.Outcome.TheVariants.{Nothing}
 use Rattle.session.specs.declared.state.ClientState.TheVariants.{Disconnected, Connected}
 use Rattle.session_laws.specs.Lines.{Turn, Line, lines, after}
 
 -- an active stream's number has 32 bits, and without one the stage is none of those with a stream
 pub record Streamed (p : Progress) : Type 0 where
-  pub below : (x : StreamNumber) → p.active ≡ active.Some x → x.0 < 2 ^ 32
-  pub idle : p.active ≡ active.None → (p.state ≡ Disconnected) ⊎ (p.state ≡ Connected)
+  pub below : (x : StreamNumber) → p.active ≡ Some x → x.0 < 2 ^ 32
+  pub idle : p.active ≡ None → (p.state ≡ Disconnected) ⊎ (p.state ≡ Connected)
 
 pub record Sound (s : ClientSession) : Type 0 where
   pub session : is_session s ≡ true
@@ -33,7 +32,7 @@ pub record Sound (s : ClientSession) : Type 0 where
 
 -- the window and the pending count have 32 bits
 pub record Within (l : Link) : Type 0 where
-  pub window_below : (w : ℕ) → l.window ≡ window.Some w → w < 2 ^ 32
+  pub window_below : (w : ℕ) → l.window ≡ Some w → w < 2 ^ 32
   pub pending_below : l.pending < 2 ^ 32
 
 -- a body that came is made of bytes
@@ -55,7 +54,7 @@ pub record Opened (s : ClientSession) : Type 0 where
   pub within : Within s.link
 
 abbrev pub FromOpening : Type 0
-FromOpening = (c : ClientSessionConfig) → (open_of c).outcome ≡ Nothing → Opened (open_of c).session
+FromOpening = (c : ClientSessionConfig) → (open_of c).outcome ≡ Ok Nothing → Opened (open_of c).session
 
 -- whatever the call's arguments and the lent output hold
 abbrev pub StaysSound : Type 0
@@ -67,8 +66,8 @@ StaysWithin =
     OfBytes c → Within s.link → Within (step s clock c old).session.link
 
 -- neither 13 nor 3
-abbrev pub Never : Outcome → Type 0
-Never o = (o ≢ Refused NotASession) × (o ≢ Refused NoKnownActiveStreamIdWhenRequired)
+abbrev pub Never : Result Outcome ClientSessionError → Type 0
+Never o = (o ≢ Err NotASession) × (o ≢ Err NoKnownActiveStreamIdWhenRequired)
 
 abbrev pub NeverOnce : Type 0
 NeverOnce = (s : ClientSession) (clock : RtmpTimestamp) (c : Call) (old : List ℕ) → Sound s → Never (step s clock c old).outcome
@@ -79,4 +78,4 @@ pub record AllAlong (s : ClientSession) (ts : List Turn) : Type 0 where
   pub never : (l : Line) → Memᴰ l (lines s ts) → Never l.outcome
 
 abbrev pub AlwaysSound : Type 0
-AlwaysSound = (c : ClientSessionConfig) → (open_of c).outcome ≡ Nothing → (ts : List Turn) → AllAlong (open_of c).session ts
+AlwaysSound = (c : ClientSessionConfig) → (open_of c).outcome ≡ Ok Nothing → (ts : List Turn) → AllAlong (open_of c).session ts

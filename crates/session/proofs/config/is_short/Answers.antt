@@ -1,26 +1,14 @@
--- `is_short` meets its contract. The loop's invariant: if the bytes from `i` up to the sixteenth are below 80, so are all sixteen.
+-- `is_short` meets its contract: sixteen bytes below 80 are sound, however few of them the text has.
 -- Assumes nothing.
-use Rattle.std.proofs.Common.{◌≡◌, ◌-◌, length, arith, rules}
-use mathlib.Core.Bool.{false≢true}
-use Rattle.session.proofs.PlainLaws.{low_step, short-sound}
+use borrow.Author.Rules.{rules}
+use Rattle.std.proofs.Common.{ltb, take, sym, ◌∙◌, arith}
+use Rattle.std.proofs.lemmas.Iterator.{YieldsList-from_slice}
+use Rattle.std.proofs.lemmas.Iterator.Search.{all_from_yields_List}
+use Rattle.session.proofs.PlainLaws.{all-ascii, short-sound}
 use Rattle.session.proofs.config.is_short.Goals as goal
 
-pub returns-then-text-gt16 : goal.returns-then-text-gt16
-returns-then-text-gt16 c = λ h. absurd (false≢true h)
-
-pub loop-i-init : goal.loop-i-init
-loop-i-init c = λ h. h
-
-pub loop-i-preserved : goal.loop-i-preserved
-loop-i-preserved c =
-    let bytes = c.args.text.bytes in
-    let n : length bytes ≡ 255 = search rules in
-    λ h. c.loop-i.invariant (low_step bytes c.loop-i.i (omega arith) (omega arith) (omega arith) h)
-
-pub returns-then-bytes-i-gt127 : goal.returns-then-bytes-i-gt127
-returns-then-bytes-i-gt127 c = λ h. absurd (false≢true h)
-
-pub returns : goal.returns
-returns c =
-    let z : 16 - c.loop-i.i ≡ 0 = omega arith in
-    λ h. short-sound c.args.text (omega arith) (c.loop-i.invariant (rw z))
+pub returns-then-text-le16 : goal.returns-then-text-le16
+returns-then-text-le16 c =
+    let b = take 16 c.args.text.now.bytes in
+    let e = all_from_yields_List (λ x. ltb x 0x80) _ _ _ c.all.ensures.ran (YieldsList-from_slice b (search rules)) (λ x b q k. search rules) in
+    λ h. short-sound c.args.text.now (omega arith) (all-ascii b (sym e ∙ h))

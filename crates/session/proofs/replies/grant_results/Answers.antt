@@ -7,4 +7,4 @@ pub returns-in-PlayRequest : goal.returns-in-PlayRequest
 returns-in-PlayRequest c = λ s b key l. play-answered s _ b key _ c.in-PlayRequest.is l c.packet.ensures
 
 pub returns-in-PublishRequest : goal.returns-in-PublishRequest
-returns-in-PublishRequest c = λ s b key l. publish-answered s _ b key _ c.in-PublishRequest.is l c.packet-publish.ensures
+returns-in-PublishRequest c = λ s b key l. publish-answered s _ b key _ c.in-PublishRequest.is l c.sent.ensures

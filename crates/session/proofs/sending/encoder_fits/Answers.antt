@@ -5,10 +5,10 @@ use Rattle.amf0.specs.Places.{stretch}
 use Rattle.requests.specs.Texts.{fits}
 use Rattle.session.proofs.sending.encoder_fits.Goals as goal
 
-pub returns-in-Absent : goal.returns-in-Absent
+pub returns-in-None : goal.returns-in-None
 unfolding fits octets stretch utf8
-returns-in-Absent c = rw c.in-Absent.is
+returns-in-None c = rw c.in-None.is
 
-pub returns-in-At : goal.returns-in-At
+pub returns-in-Some : goal.returns-in-Some
 unfolding stretch
-returns-in-At c = rw (c.in-At.is, ← c.part.ensures) c.fits.ensures
+returns-in-Some c = rw (c.in-Some.is, ← c.part_of.ensures) c.fits.ensures

@@ -1,28 +1,16 @@
 -- `ClientSessionConfig::texts_sound` meets its contract: the flash version's text first, then a configured tcUrl's.
 -- Assumes nothing.
-use mathlib.Core.Bool.{not}
-use mathlib.Core.Path.{ap}
-use Rattle.std.proofs.Common.{◌≡◌, true, false}
-use Rattle.requests.specs.Texts.{text_sound}
 use Rattle.session.specs.Record.{texts_sound}
-use Rattle.session.proofs.StepLaws.{is_said}
-use Rattle.session.proofs.RecordLaws.{not-held}
 use Rattle.session.proofs.config.ClientSessionConfig.texts_sound.Goals as goal
 
-pub returns-then-not-sound : goal.returns-then-not-sound
+pub returns-else-sound : goal.returns-else-sound
 unfolding texts_sound
-returns-then-not-sound c =
-    let f : text_sound c.args.self.flash_version ≡ false = not-held c.sound.ensures (ap not c.if-not-sound.true) in
-    rw f
+returns-else-sound c = rw (← c.sound.ensures, c.if-sound.false)
 
-pub returns-then-self : goal.returns-then-self
+pub returns-in-None : goal.returns-in-None
 unfolding texts_sound
-returns-then-self c =
-    let f : text_sound c.args.self.flash_version ≡ true = is_said c.sound.ensures (ap not c.if-not-sound.false) in
-    rw (f, c.if-self.true) c.sound-then-self.ensures
+returns-in-None c = rw (← c.sound.ensures, c.if-sound.true, c.in-None.is)
 
-pub returns : goal.returns
+pub returns-in-Some : goal.returns-in-Some
 unfolding texts_sound
-returns c =
-    let f : text_sound c.args.self.flash_version ≡ true = is_said c.sound.ensures (ap not c.if-not-sound.false) in
-    rw (f, c.if-self.false)
+returns-in-Some c = rw (← c.sound.ensures, c.if-sound.true, c.in-Some.is) c.sound-in-Some.ensures

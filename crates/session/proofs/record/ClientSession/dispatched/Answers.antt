@@ -1,29 +1,17 @@
 -- `ClientSession::dispatched` meets its contract: message by message.
 -- Assumes nothing.
+use Rattle.std.proofs.Common.{refl}
 use Rattle.session.specs.Message.{on_message}
-use Rattle.session.proofs.StepLaws.{away}
-use Rattle.session.proofs.MessageLaws.{raised-goes, unhandled-goes, message-is}
+use Rattle.session.proofs.MessageLaws.{raised-goes, unhandled-goes, unhandled-is, message-is}
 use Rattle.session.proofs.record.ClientSession.dispatched.Goals as goal
-
-pub returns-in-Malformed : goal.returns-in-Malformed
-unfolding on_message
-returns-in-Malformed c = message-is _ _ _ _ _ c.in-Malformed.is (away c.refused.ensures)
 
 pub returns-in-Unknown : goal.returns-in-Unknown
 unfolding on_message
-returns-in-Unknown c = message-is _ _ _ _ _ c.in-Unknown.is (unhandled-goes c.unhandled.ensures)
-
-pub returns-in-Abort : goal.returns-in-Abort
-unfolding on_message
-returns-in-Abort c = message-is _ _ _ _ _ c.in-Abort.is (unhandled-goes c.unhandled-in-Abort.ensures)
-
-pub returns-in-SetPeerBandwidth : goal.returns-in-SetPeerBandwidth
-unfolding on_message
-returns-in-SetPeerBandwidth c = message-is _ _ _ _ _ c.in-SetPeerBandwidth.is (unhandled-goes c.unhandled-in-SetPeerBandwidth.ensures)
+returns-in-Unknown c = unhandled-is _ _ _ _ _ c.in-Unknown.is (unhandled-goes refl)
 
 pub returns-in-Acknowledgement : goal.returns-in-Acknowledgement
 unfolding on_message
-returns-in-Acknowledgement c = message-is _ _ _ _ _ c.in-Acknowledgement.is (raised-goes c.raised.ensures)
+returns-in-Acknowledgement c = message-is _ _ _ _ _ c.in-Acknowledgement.is (raised-goes (rw c.raised.ensures))
 
 pub returns-in-Amf0Command : goal.returns-in-Amf0Command
 unfolding on_message

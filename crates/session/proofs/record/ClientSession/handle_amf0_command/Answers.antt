@@ -16,4 +16,4 @@ returns-in-OnStatus c =
     command-is _ _ c.args.command c.in-OnStatus.is (c.handle_on_status_command.ensures c.args.clock c.args.out.now)
 
 pub returns-in-Other : goal.returns-in-Other
-returns-in-Other c = command-is _ _ c.args.command c.in-Other.is (raised-goes c.raised.ensures)
+returns-in-Other c = command-is _ _ c.args.command c.in-Other.is (raised-goes (rw c.raised.ensures))

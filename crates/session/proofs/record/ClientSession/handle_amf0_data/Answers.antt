@@ -1,5 +1,6 @@
 -- `ClientSession::handle_amf0_data` meets its contract: metadata, or other values.
 -- Assumes nothing.
+use Rattle.std.proofs.Common.{refl}
 use Rattle.session.proofs.StepLaws.{quiet-goes}
 use Rattle.session.proofs.MessageLaws.{metadata-in, others_in}
 use Rattle.session.proofs.record.ClientSession.handle_amf0_data.Goals as goal
@@ -11,4 +12,4 @@ returns-in-OnMetaData c =
     metadata-in clock b _ c.in-OnMetaData.is c.read_metadata.ensures (c.if_active.ensures clock b old)
 
 pub returns-in-Other : goal.returns-in-Other
-returns-in-Other c = λ clock old. others_in clock _ _ c.in-Other.is (quiet-goes c.quiet.ensures)
+returns-in-Other c = λ clock old. others_in clock _ _ c.in-Other.is (quiet-goes refl)

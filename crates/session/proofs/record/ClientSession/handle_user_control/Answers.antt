@@ -1,26 +1,20 @@
 -- `ClientSession::handle_user_control` meets its contract: event by event.
 -- Assumes nothing.
-use Rattle.session.proofs.StepLaws.{quiet-goes}
-use Rattle.session.proofs.MessageLaws.{raised-goes, control-is}
+use Rattle.std.proofs.Common.{refl}
+use Rattle.session.proofs.StepLaws.{sent_short, sent-done, quiet-goes}
+use Rattle.session.proofs.MessageLaws.{raised-goes, control-is, control_quiet}
 use Rattle.session.proofs.record.ClientSession.handle_user_control.Goals as goal
 
-pub returns-in-PingRequest : goal.returns-in-PingRequest
-returns-in-PingRequest c = λ b. control-is _ b c.in-PingRequest.is (c.handle_ping_request.ensures b)
+pub returns-in_err-len-in-PingRequest : goal.returns-in_err-len-in-PingRequest
+returns-in_err-len-in-PingRequest c =
+    λ b. control-is _ b c.in-PingRequest.is (sent_short c.write_ping_response.ensures c.in_err-len-in-PingRequest.was c.from_residual.ensures.1)
+
+pub returns-in_ok-len-in-PingRequest : goal.returns-in_ok-len-in-PingRequest
+returns-in_ok-len-in-PingRequest c =
+    λ b. control-is _ b c.in-PingRequest.is (sent-done c.write_ping_response.ensures c.in_ok-len-in-PingRequest.was c.sent.ensures)
 
 pub returns-in-PingResponse : goal.returns-in-PingResponse
-returns-in-PingResponse c = λ b. control-is _ b c.in-PingResponse.is (raised-goes c.raised.ensures)
+returns-in-PingResponse c = λ b. control-is _ b c.in-PingResponse.is (raised-goes (rw c.raised.ensures))
 
-pub returns-in-StreamBegin : goal.returns-in-StreamBegin
-returns-in-StreamBegin c = λ b. control-is _ b c.in-StreamBegin.is (quiet-goes c.quiet.ensures)
-
-pub returns-in-StreamEof : goal.returns-in-StreamEof
-returns-in-StreamEof c = λ b. control-is _ b c.in-StreamEof.is (quiet-goes c.quiet-in-StreamEof.ensures)
-
-pub returns-in-StreamDry : goal.returns-in-StreamDry
-returns-in-StreamDry c = λ b. control-is _ b c.in-StreamDry.is (quiet-goes c.quiet-in-StreamDry.ensures)
-
-pub returns-in-SetBufferLength : goal.returns-in-SetBufferLength
-returns-in-SetBufferLength c = λ b. control-is _ b c.in-SetBufferLength.is (quiet-goes c.quiet-in-SetBufferLength.ensures)
-
-pub returns-in-StreamIsRecorded : goal.returns-in-StreamIsRecorded
-returns-in-StreamIsRecorded c = λ b. control-is _ b c.in-StreamIsRecorded.is (quiet-goes c.quiet-in-StreamIsRecorded.ensures)
+pub returns-in_default : goal.returns-in_default
+returns-in_default c = λ b. control_quiet _ b _ c.in_default.not-PingRequest c.in_default.not-PingResponse (quiet-goes refl)

@@ -13,18 +13,18 @@ pub returns-then-not-texts_sound : goal.returns-then-not-texts_sound
 unfolding fresh open_of
 returns-then-not-texts_sound c =
     let t : texts_sound c.args.config ≡ false = not-held c.texts_sound.ensures (ap not c.if-not-texts_sound.true) in
-    rw (c.refused.ensures, c.new.ensures, t)
+    rw (c.new.ensures, t)
 
 pub returns-then-config-gt2147483647 : goal.returns-then-config-gt2147483647
 unfolding fresh open_of
 returns-then-config-gt2147483647 c =
     let g = c.args.config in
     let t : texts_sound g ≡ true = is_said c.texts_sound.ensures (ap not c.if-not-texts_sound.false) in
-    rw (c.refused-then-config-gt2147483647.ensures, c.new.ensures, t, lt-leb g.chunk_size 2147483647 (omega arith))
+    rw (c.new.ensures, t, lt-leb g.chunk_size 2147483647 (omega arith))
 
 pub returns : goal.returns
 unfolding fresh open_of
 returns c =
     let g = c.args.config in
     let t : texts_sound g ≡ true = is_said c.texts_sound.ensures (ap not c.if-not-texts_sound.false) in
-    rw (c.quiet.ensures, c.new.ensures, t, le-leb g.chunk_size 2147483647 (omega arith))
+    rw (c.new.ensures, t, le-leb g.chunk_size 2147483647 (omega arith))

@@ -1,38 +1,31 @@
--- `ClientSession::publish_data` meets its contract: refusal 13, the stage, the active stream, the length, then the message.
+-- `ClientSession::publish_data` meets its contract: the stream, the length, then the message.
 -- Assumes nothing.
-use mathlib.Core.Bool.{not}
-use mathlib.Core.Path.{ap}
 use Rattle.std.proofs.Common.{length, refl, arith, le-ltb, lt-ltb}
-use Rattle.session.proofs.StepLaws.{does_13, does_as}
-use Rattle.session.proofs.CallLaws.{not-publishing, no-stream, not-given, published-goes}
+use Rattle.session.proofs.StepLaws.{order_miss, order-end, sent_short, sent-done}
+use Rattle.session.proofs.CallLaws.{on-stream, no-stream, not-given}
 use Rattle.session.proofs.record.ClientSession.publish_data.Goals as goal
 
-pub returns-then-not-is_session : goal.returns-then-not-is_session
-returns-then-not-is_session c = λ clock call e. does_13 c.is_session.ensures (ap not c.if-not-is_session.true) refl
-
-pub returns-then-not-is_publishing : goal.returns-then-not-is_publishing
-returns-then-not-is_publishing c =
-    λ clock call e.
-    does_as c.is_session.ensures (ap not c.if-not-is_session.false) e
-    (not-publishing clock c.is_publishing.ensures _ _ _ (ap not c.if-not-is_publishing.true) refl)
-
-pub returns-in_default : goal.returns-in_default
-returns-in_default c =
-    λ clock call e.
-    does_as c.is_session.ensures (ap not c.if-not-is_session.false) e
-    (no-stream clock c.is_publishing.ensures _ _ _ (ap not c.if-not-is_publishing.false) c.in_default.is refl)
+pub returns-in_err-stream : goal.returns-in_err-stream
+returns-in_err-stream c = λ clock call p. no-stream _ _ p c.stream.ensures c.in_err-stream.was c.from_residual.ensures.1
 
 pub returns-then-data-gt16777215 : goal.returns-then-data-gt16777215
 returns-then-data-gt16777215 c =
     let b = c.args.«data».now in
-    λ clock call e.
-    does_as c.is_session.ensures (ap not c.if-not-is_session.false) e
-    (not-given clock c.is_publishing.ensures _ _ _ (ap not c.if-not-is_publishing.false) c.in-Some.is (lt-ltb 16777215 (length b) (omega arith)) refl)
+    λ clock call p.
+    not-given _ _ p c.stream.ensures c.in_ok-stream.was (lt-ltb 16777215 (length b) (omega arith)) refl
+
+pub returns-in_err-len : goal.returns-in_err-len
+returns-in_err-len c =
+    let b = c.args.«data».now in
+    let f = le-ltb 16777215 (length b) (omega (arith, c.if-data-gt16777215.false)) in
+    λ clock call p.
+    on-stream _ _ p c.stream.ensures c.in_ok-stream.was
+    (order_miss _ _ _ _ f (order-end _ (sent_short c.write_bytes.ensures c.in_err-len.was c.from_residual-in_err-len.ensures.1)))
 
 pub returns : goal.returns
 returns c =
-    let z = c.args in
-    let f = le-ltb 16777215 (length z.«data».now) (omega (arith, c.if-data-gt16777215.false)) in
-    λ clock call e.
-    does_as c.is_session.ensures (ap not c.if-not-is_session.false) e
-    (published-goes clock c.is_publishing.ensures _ _ _ _ _ (ap not c.if-not-is_publishing.false) c.in-Some.is f c.write_bytes-wrote.ensures (c.outcome.ensures z.self))
+    let b = c.args.«data».now in
+    let f = le-ltb 16777215 (length b) (omega (arith, c.if-data-gt16777215.false)) in
+    λ clock call p.
+    on-stream _ _ p c.stream.ensures c.in_ok-stream.was
+    (order_miss _ _ _ _ f (order-end _ (sent-done c.write_bytes.ensures c.in_ok-len.was c.sent.ensures)))

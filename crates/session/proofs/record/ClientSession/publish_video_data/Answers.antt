@@ -2,10 +2,8 @@
 -- Assumes nothing.
 use Rattle.std.proofs.Common.{refl}
 use Rattle.session.specs.Step.{plan}
-use Rattle.session.proofs.StepLaws.{handed}
 use Rattle.session.proofs.record.ClientSession.publish_video_data.Goals as goal
 
 pub returns : goal.returns
 unfolding plan
-returns c =
-    handed refl c.with_outcome.ensures (c.publish_data-outcome.ensures c.args.clock _ refl)
+returns c = c.publish_data-outcome.ensures c.args.clock _ refl

@@ -1,8 +1,0 @@
--- `asking` is safe and ends. Assumes nothing.
-use Rattle.bench_session.proofs.asking.Goals as goal
-
-pub loop-i-init : goal.loop-i-init
-loop-i-init c = tt
-
-pub loop-i-preserved : goal.loop-i-preserved
-loop-i-preserved c = tt
