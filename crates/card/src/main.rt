@@ -1,6 +1,8 @@
 // Document 01's program: a script of calls on a session.
 #![tactic(auto)]
 
+use script_io::Telling;
+
 // A line has at most 2,097,407 bytes and a body 1,048,576, so that such a body's digits fit a line.
 fn main(rt: HostRuntime) {
     let mut buf = [0u8; 2097408];
@@ -11,6 +13,7 @@ fn main(rt: HostRuntime) {
         rt.stdin(),
         rt.stdout(),
         rt.stderr(),
+        Telling::Results,
         &mut buf,
         &mut body,
         &mut out,

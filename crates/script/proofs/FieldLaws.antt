@@ -1,111 +1,113 @@
--- Laws of fields: the first field of a line's last part, or the next after a place, ends at its tab or at the line's end, and the fields after it are those after
--- that end.
+-- Laws of fields: the first field of a line's last part ends at its tab or at the line's end, and the fields after it are those after that end.
 -- Assumes nothing.
-use mathlib.Core.Path.{◌≡◌, refl, sym, ap, ◌∙◌}
-use mathlib.Core.Bool.{cond}
+use mathlib.Core.Path.{◌≡◌, refl, sym, ap, subst, ◌∙◌}
+use mathlib.Core.Bool.{true, false, cond, not, and-true}
 use mathlib.Core.List.{List, [], ◌∷◌}
-use Prim.Native.Nat.{ℕ, suc, ◌+◌, ◌-◌, ◌<◌, ◌≤◌}
-use native.Mathlib.Numerals.{add-one}
+use Prim.Native.Nat.{ℕ, suc, min, ◌+◌, ◌-◌, ◌<◌, ◌≤◌}
 use native.Mathlib.Omega.{arith}
-use borrow.Author.Tests.{eq-eqb, ne_eqb, lt-ltb, le-ltb, ltb-true, ltb-false}
-use lib.Dec.{eqb, ltb}
-use lib.ListN.{length, get_or, take, drop, length-take, length-drop}
-use lib.Seq.{drop-cons, drop-drop, take_all}
+use borrow.Author.Tests.{le-leb, lt-leb, leb-true, leb-false, ltb-false}
+use lib.Dec.{eqb, leb, ltb}
+use lib.ListN.{length, get_or, take, drop, length-drop}
+use lib.Seq.{drop-cons, drop-drop, drop-length}
+use lib.Pointwise.{pointwise}
+use Rattle.std.specs.Prelude.{Option, Some, None, MatchOption}
+use Rattle.std.proofs.Common.{Bor}
+use Rattle.std.specs.Option.{unwrap_or}
+use Rattle.std.specs.List.{position, position_or_len}
+use Rattle.std.proofs.Math.Nat.{min-eq_left}
+use Rattle.std.proofs.lemmas.List.Sums.{prefix_len-le-length}
 use Rattle.requests.proofs.BoolLaws.{by_cases}
-use Rattle.script.specs.Fields.{until, bare, field, begun, fields_from, fields_after}
+use Rattle.script.specs.Fields.{until, bare, field, begun, fields_from, fields_at}
 
--- an element further
-until-step : (b : ℕ) (s : List ℕ) (i : ℕ) → i < length s → until b (drop i s) ≡ cond (eqb (get_or s i 0) b) 0 (suc (until b (drop (i + 1) s)))
+-- how many elements stand before the first b: what the search answers
+prefix_is : (b : ℕ) (l : List ℕ) → position_or_len (λ x. eqb x b) l ≡ until b l
 unfolding until
-until-step b s i h = rw (add-one, drop-cons s i 0 h)
+prefix_is b [] = refl
+prefix_is b (x ∷ l) =
+    by_cases (eqb x b)
+    (λ t. rw t)
+    (λ t. rw (t, prefix_is b l) (omega arith))
 
-pub until-other : (b : ℕ) (s : List ℕ) (i : ℕ) → i < length s → (get_or s i 0 ≡ b → ⊥) → i + until b (drop i s) ≡ i + 1 + until b (drop (i + 1) s)
-until-other b s i h n =
-    let e : until b (drop i s) ≡ suc (until b (drop (i + 1) s)) = until-step b s i h ∙ rw (ne_eqb (get_or s i 0) b n) in
-    rw e (omega arith)
+place_or : (n m : ℕ) → n ≤ m → unwrap_or (cond (ltb n m) (Some n) None) m ≡ n
+place_or n m h =
+    by_cases (ltb n m)
+    (λ t. rw t)
+    (λ t. rw t (omega (arith, ltb-false n m t)))
 
-pub until-here : (b : ℕ) (s : List ℕ) (i : ℕ) → i < length s → get_or s i 0 ≡ b → i + until b (drop i s) ≡ i
-until-here b s i h n =
-    let e : until b (drop i s) ≡ 0 = until-step b s i h ∙ rw (eq-eqb (get_or s i 0) b n) in
-    rw e (omega arith)
+pub until-place : (b : ℕ) (l : List ℕ) → unwrap_or (position (λ x. eqb x b) l) (length l) ≡ until b l
+until-place b l = place_or (position_or_len (λ x. eqb x b) l) (length l) (prefix_len-le-length (λ x. not (eqb x b)) l) ∙ prefix_is b l
 
 none_left : (b : ℕ) (l : List ℕ) → length l ≡ 0 → until b l ≡ 0
 unfolding until
 none_left b [] h = refl
 none_left b (x ∷ l) h = absurd (omega arith)
 
-pub until_end : (b : ℕ) (s : List ℕ) (i : ℕ) → length s ≤ i → i + until b (drop i s) ≡ i
+pub until_end : (b : ℕ) (s : List ℕ) (i : ℕ) → length s ≤ i → i ≡ i + until b (drop i s)
 until_end b s i h =
     let n : length (drop i s) ≡ 0 = rw length-drop (omega arith) in
     rw (none_left b (drop i s) n) (omega arith)
 
-ltb_suc : (m n : ℕ) → ltb (suc m) (suc n) ≡ ltb m n
-ltb_suc m n =
-    by_cases (ltb m n)
-    (λ t. lt-ltb (suc m) (suc n) (omega (arith, ltb-true m n t)) ∙ sym t)
-    (λ t. le-ltb (suc m) (suc n) (omega (arith, ltb-false m n t)) ∙ sym t)
+leb_suc : (m n : ℕ) → leb (suc m) (suc n) ≡ leb m n
+leb_suc m n =
+    by_cases (leb m n)
+    (λ t. le-leb (suc m) (suc n) (omega (arith, leb-true m n t)) ∙ sym t)
+    (λ t. lt-leb (suc m) (suc n) (omega (arith, leb-false m n t)) ∙ sym t)
 
-ltb_moved : (a u l : ℕ) → a ≤ l → ltb u (l - a) ≡ ltb (a + u) l
-ltb_moved a u l h =
-    by_cases (ltb u (l - a))
-    (λ t. t ∙ sym (lt-ltb (a + u) l (omega (arith, ltb-true u (l - a) t))))
-    (λ t. t ∙ sym (le-ltb (a + u) l (omega (arith, ltb-false u (l - a) t))))
+leb_moved : (a u l : ℕ) → a ≤ l → leb (suc u) (l - a) ≡ leb (suc (a + u)) l
+leb_moved a u l h =
+    by_cases (leb (suc u) (l - a))
+    (λ t. t ∙ sym (le-leb (suc (a + u)) l (omega (arith, leb-true (suc u) (l - a) t))))
+    (λ t. t ∙ sym (lt-leb (suc (a + u)) l (omega (arith, leb-false (suc u) (l - a) t))))
 
 -- the first field goes to the first tab, and after it come those of what is left
 first : (l : List ℕ) (at u e : ℕ) → u ≡ until 9 l → e ≡ at + u
-    → fields_from at l ≡ field at (take u l) ∷ cond (ltb u (length l)) (fields_from (suc e) (drop (suc u) l)) []
+    → fields_from at l ≡ field at (take u l) ∷ cond (leb (suc u) (length l)) (fields_from (suc e) (drop (suc u) l)) []
 unfolding until fields_from
 first [] at u e q p = rw q
 first (x ∷ xs) at u e q p =
     by_cases (eqb x 9)
     (λ t. let z : u ≡ 0 = q ∙ rw t in
     let y : e ≡ at = omega arith in
-    rw (t, z, y, lt-ltb 0 (suc (length xs)) (omega arith)))
+    rw (t, z, y, le-leb 1 (suc (length xs)) (omega arith)))
     (λ t. let z : u ≡ suc (until 9 xs) = q ∙ rw t in
-    rw (t, z, ltb_suc (until 9 xs) (length xs)) (ap (begun at x) (first xs (suc at) (until 9 xs) e refl (omega arith))))
+    rw (t, z, leb_suc (suc (until 9 xs)) (length xs)) (ap (begun at x) (first xs (suc at) (until 9 xs) e refl (omega arith))))
 
--- the same at a place of the line
-pub field_at : (s : List ℕ) (at end : ℕ) → at ≤ length s → end ≡ at + until 9 (drop at s)
-    → fields_from at (drop at s) ≡ field at (take (end - at) (drop at s)) ∷ fields_after s end
-unfolding fields_after
-field_at s at end h q =
-    let u : end - at ≡ until 9 (drop at s) = omega arith in
-    let g : end + 1 ≡ at + suc (end - at) = omega arith in
-    let b : ltb (end - at) (length (drop at s)) ≡ ltb end (length s) =
-    rw length-drop (ltb_moved at (end - at) (length s) h ∙ ap (λ (n : ℕ). ltb n (length s)) (omega arith)) in
-    let d : drop (suc (end - at)) (drop at s) ≡ drop (end + 1) s = drop-drop (suc (end - at)) at s ∙ ap (λ (n : ℕ). drop n s) (sym g) in
-    first (drop at s) at (end - at) end u (omega arith) ∙ rw (b, d, add-one)
+-- the field at a place of the line, and those after it
+pub field_at : (s : List ℕ) (next u : ℕ) → next ≤ length s → u ≡ until 9 (drop next s)
+    → fields_at s next ≡ field next (take u (drop next s)) ∷ fields_at s (next + (u + 1))
+unfolding fields_at
+field_at s next u h q =
+    let g : next + (u + 1) ≡ suc (next + u) = omega arith in
+    let b : leb (suc u) (length (drop next s)) ≡ leb (suc (next + u)) (length s) = rw length-drop (leb_moved next u (length s) h) in
+    let d : drop (suc u) (drop next s) ≡ drop (suc (next + u)) s = (let k : next + suc u ≡ suc (next + u) = omega arith in drop-drop (suc u) next s ∙ ap (λ (n : ℕ). drop n s) k) in
+    rw (le-leb next (length s) h) (first (drop next s) next u (next + u) q refl ∙ rw (b, d, g))
 
--- no field after the line's end, and one before it
-pub none_after : (s : List ℕ) (before : ℕ) → length s ≤ before → fields_after s before ≡ []
-unfolding fields_after
-none_after s before h = rw (le-ltb before (length s) h)
+-- none past the line's end
+pub none-at : (s : List ℕ) (next : ℕ) → length s < next → fields_at s next ≡ []
+unfolding fields_at
+none-at s next h = rw (lt-leb next (length s) h)
 
-pub some_after : (s : List ℕ) (before : ℕ) → before < length s → fields_after s before ≡ fields_from (before + 1) (drop (before + 1) s)
-unfolding fields_after
-some_after s before h = rw (lt-ltb before (length s) h)
-
-pub field-after : (s : List ℕ) (before end : ℕ) → before < length s → end ≡ before + 1 + until 9 (drop (before + 1) s)
-    → fields_after s before ≡ field (before + 1) (take (end - (before + 1)) (drop (before + 1) s)) ∷ fields_after s end
-field-after s before end h q = some_after s before h ∙ field_at s (before + 1) end (omega arith) q
-
--- how long a field is
-pub field-length : (s : List ℕ) (at end : ℕ) → at ≤ end → end ≤ length s → length (take (end - at) (drop at s)) ≡ end - at
-field-length s at end h k = simp (length-take, length-drop) (omega arith)
+-- those after the line's end are none, from whichever place on
+pub fields_min : (s : List ℕ) (end : ℕ) → fields_at s (min end (length s) + 1) ≡ fields_at s (end + 1)
+fields_min s end =
+    by_cases (leb end (length s))
+    (λ t. ap (λ n. fields_at s (n + 1)) (min-eq_left (leb-true end (length s) t)))
+    (λ t. let l : length s < end = leb-false end (length s) t in
+    none-at s (min end (length s) + 1) (omega arith) ∙ sym (none-at s (end + 1) (omega arith)))
 
 -- the carriage return at a line's end
-pub bare-none : (s : List ℕ) (n : ℕ) → n ≡ length s → n ≡ 0 → take n s ≡ bare s
-unfolding bare
-bare-none [] n h z = rw z
-bare-none (x ∷ s) n h z = absurd (omega arith)
+last_one : (x : ℕ) (s : List ℕ) → pointwise eqb (drop (length s) (x ∷ s)) (13 ∷ []) ≡ eqb (get_or (x ∷ s) (length s) 0) 13
+last_one x s = rw (drop-cons (x ∷ s) (length s) 0 (omega arith), drop-length s) (and-true (eqb (get_or (x ∷ s) (length s) 0) 13))
 
-pub bare-cut : (s : List ℕ) (n : ℕ) → n ≡ length s → get_or s (n - 1) 0 ≡ 13 → take (n - 1) s ≡ bare s
-unfolding bare
-bare-cut s n h e = rw (← h, eq-eqb (get_or s (n - 1) 0) 13 e)
+last_byte : (s : List ℕ) → pointwise eqb (drop (length s - 1) s) (13 ∷ []) ≡ eqb (get_or s (length s - 1) 0) 13
+last_byte [] = refl
+last_byte (x ∷ s) =
+    let e : length (x ∷ s) - 1 ≡ length s = omega arith in
+    subst (λ (n : ℕ). pointwise eqb (drop n (x ∷ s)) (13 ∷ []) ≡ eqb (get_or (x ∷ s) n 0) 13) (sym e) (last_one x s)
 
-pub bare-kept : (s : List ℕ) (n : ℕ) → n ≡ length s → (get_or s (n - 1) 0 ≡ 13 → ⊥) → take n s ≡ bare s
+pub bare_is : (s : List ℕ) (whole : Bor (List ℕ)) (o : Option (Bor (List ℕ))) → whole.now ≡ s
+    → MatchOption o (pointwise eqb (drop (length s - 1) s) (13 ∷ []) ≡ false) (λ x. (pointwise eqb (drop (length s - 1) s) (13 ∷ []) ≡ true) × (x.now ≡ take (length s - 1) s) × (length x.now + 1 ≡ length s))
+    → (unwrap_or o whole).now ≡ bare s
 unfolding bare
-bare-kept s n h e = rw (← h, ne_eqb (get_or s (n - 1) 0) 13 e) (take_all n s (omega arith))
-
-pub bare-part : (s : List ℕ) (n : ℕ) → take n s ≡ bare s → take (n - 0) (drop 0 s) ≡ bare s
-bare-part s n h = let e : n - 0 ≡ n = omega arith in ap (λ (m : ℕ). take m s) e ∙ h
+bare_is s whole None e h = e ∙ sym (rw (sym (last_byte s) ∙ h))
+bare_is s whole (Some x) e (t, n, l) = n ∙ sym (rw (sym (last_byte s) ∙ t))

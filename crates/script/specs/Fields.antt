@@ -1,7 +1,8 @@
 -- A line's fields: what stands between its tabs, each with the place where it starts.
 -- Assumes nothing.
-use Rattle.std.specs.Prelude.{ℕ, suc, ◌+◌, ◌-◌, cond, List, [], ◌∷◌, eqb, ltb, length, drop, take, get_or}
-use Rattle.script.specs.declared.fields.Span.{Span}
+use Rattle.std.specs.Prelude.{ℕ, suc, ◌+◌, ◌-◌, cond, List, [], ◌∷◌, eqb, leb, length, drop, take, get_or}
+use Rattle.octets.specs.declared.span.Span.{Span}
+use Rattle.script.specs.declared.fields.Fields.{Fields}
 
 -- how many elements stand before the first b
 unfoldable pub until : ℕ → List ℕ → ℕ
@@ -36,6 +37,14 @@ unfoldable pub fields_from : ℕ → List ℕ → List Field
 fields_from at [] = field at [] ∷ []
 fields_from at (x ∷ xs) = cond (eqb x 9) (field at [] ∷ fields_from (suc at) xs) (begun at x (fields_from (suc at) xs))
 
+-- those from the place `next` of the line on: none where that is past the line's end
+unfoldable pub fields_at : List ℕ → ℕ → List Field
+fields_at s next = cond (leb next (length s)) (fields_from next (drop next s)) []
+
 -- those after the field that ends at `end`: none where the line ends there
-unfoldable pub fields_after : List ℕ → ℕ → List Field
-fields_after s end = cond (ltb end (length s)) (fields_from (end + 1) (drop (end + 1) s)) []
+abbrev pub fields_after : List ℕ → ℕ → List Field
+fields_after s end = fields_at s (end + 1)
+
+-- those that are left of a line
+abbrev pub left : Fields → List Field
+left f = fields_at f.line.now f.next

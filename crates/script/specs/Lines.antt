@@ -1,66 +1,73 @@
 -- What a line asks for: its clock, its verb, and the verb's fields. What is wrong with a line is what is wrong with the first field that can't be taken,
 -- and then that there are more fields than the verb has.
 -- Assumes nothing.
-use Rattle.std.specs.Prelude.{ℕ, ◌≡◌, Bool, cond, List, [], ◌∷◌, eqb, ltb, length}
-use Rattle.amf0.specs.declared.properties.TextAt.{TextAt}
-use Rattle.amf0.specs.declared.properties.TextAt.TheVariants.{At as TextThere, Absent}
+use Rattle.std.specs.Prelude.{ℕ, Bool, cond, List, [], ◌∷◌, eqb, ltb, Option, Some, None, Result, Ok, Err}
+use Rattle.std.specs.Option.{ok_or}
+use Rattle.std.specs.Result.{result_ok}
 use Rattle.messages.specs.declared.ids.RtmpTimestamp.{RtmpTimestamp}
 use Rattle.messages.specs.declared.ids.StreamNumber.{StreamNumber}
 use Rattle.messages.specs.declared.publish_request_type.PublishRequestType.{PublishRequestType}
-use Rattle.messages.specs.declared.stream_metadata.OptionU32.{OptionU32}
-use Rattle.messages.specs.declared.stream_metadata.OptionU32.TheVariants as u32
-use Rattle.script.specs.declared.fields.Span.{Span}
-use Rattle.script.specs.declared.fields.Num.{Num}
-use Rattle.script.specs.declared.fields.Num.TheVariants as num
-use Rattle.script.specs.declared.fields.Part.{Part}
-use Rattle.script.specs.declared.fields.Part.TheVariants as part
+use Rattle.octets.specs.declared.span.Span.{Span}
+use Rattle.script.specs.declared.reasons.Why.{Why}
 use Rattle.script.specs.declared.reasons.Why.TheVariants as why
 use Rattle.script.specs.declared.verbs.Verb.{Verb}
 use Rattle.script.specs.declared.verbs.Verb.TheVariants as verbs
-use Rattle.script.specs.declared.verbs.OptionPublishType.{OptionPublishType}
-use Rattle.script.specs.declared.verbs.OptionPublishType.TheVariants as kinds
 use Rattle.script.specs.declared.asked.Line.{Line}
-use Rattle.script.specs.declared.asked.Line.TheVariants.{Empty, Bad, Bytes, Msg, Connect, Play, Publish, StopPlayback, StopPublishing, Ping, Video, Audio, Metadata, OpenDefault, Open, Space}
+use Rattle.script.specs.declared.asked.Line.TheVariants.{Empty, Bytes, Msg, Connect, Play, Publish, StopPlayback, StopPublishing, Ping, Video, Audio, Metadata, OpenDefault, Open, Space}
 use Rattle.script.specs.declared.asked.Settings.{Settings}
 use Rattle.script.specs.Hex.{is_hex}
 use Rattle.script.specs.Decimal.{decimal_of}
-use Rattle.script.specs.Fields.{Field, span_of, end_of, bare, fields_from, fields_after}
+use Rattle.script.specs.Fields.{Field, span_of, end_of, bare, fields_at}
 use Rattle.script.specs.Verbs.{verb_of, publish_type}
 
-abbrev pub if_number : OptionU32 → (ℕ → Line) → Line
-if_number u32.None k = Bad why.Number
-if_number (u32.Some n) k = k n
+-- what was read goes on to k; what is wrong stays
+abbrev pub on : {A B : Type 0} → Result A Why → (A → Result B Why) → Result B Why
+on (Err w) k = Err w
+on (Ok x) k = k x
 
--- the next field is a number, and k goes on with it and the fields after
-unfoldable pub then_number : List Field → (ℕ → List Field → Line) → Line
-then_number [] k = Bad why.Missing
-then_number (f ∷ fs) k = if_number (decimal_of f.bytes) (λ n. k n fs)
+-- What a reader makes of the fields that are left: of the next one, and of none.
+unfoldable pub word_of : List Field → Result (List ℕ) Why
+word_of [] = Err why.Missing
+word_of (f ∷ fs) = Ok f.bytes
 
-unfoldable pub then_text : List Field → (Span → List Field → Line) → Line
-then_text [] k = Bad why.Missing
-then_text (f ∷ fs) k = k (span_of f) fs
+unfoldable pub text_of : List Field → Result Span Why
+text_of [] = Err why.Missing
+text_of (f ∷ fs) = Ok (span_of f)
 
-unfoldable pub then_hex : List Field → (Span → List Field → Line) → Line
-then_hex [] k = Bad why.Missing
-then_hex (f ∷ fs) k = cond (is_hex f.bytes) (k (span_of f) fs) (Bad why.Hex)
+unfoldable pub number_of : List Field → Result ℕ Why
+number_of fs = on (word_of fs) (λ w. ok_or (decimal_of w) why.Number)
 
-abbrev pub if_kind : OptionPublishType → (PublishRequestType → Line) → Line
-if_kind kinds.None k = Bad why.Kind
-if_kind (kinds.Some t) k = k t
+unfoldable pub hex_of : List Field → Result Span Why
+hex_of fs = on (word_of fs) (λ w. cond (is_hex w) (text_of fs) (Err why.Hex))
 
 -- `live`, `record` or `append`
-unfoldable pub then_kind : List Field → (PublishRequestType → List Field → Line) → Line
-then_kind [] k = Bad why.Missing
-then_kind (f ∷ fs) k = if_kind (publish_type f.bytes) (λ t. k t fs)
+abbrev pub kind_of : List Field → Result PublishRequestType Why
+kind_of fs = on (word_of fs) (λ w. ok_or (publish_type w) why.Kind)
 
 -- 0 or 1
-unfoldable pub then_flag : List Field → (Bool → List Field → Line) → Line
-then_flag fs k = then_number fs (λ n gs. cond (ltb 1 n) (Bad why.Flag) (k (eqb n 1) gs))
+abbrev pub flag : ℕ → Option Bool
+flag n = cond (ltb 1 n) None (Some (eqb n 1))
+
+unfoldable pub flag_of : List Field → Result Bool Why
+flag_of fs = on (number_of fs) (λ n. ok_or (flag n) why.Flag)
+
+-- the fields after the next
+unfoldable pub rest : List Field → List Field
+rest [] = []
+rest (f ∷ fs) = fs
+
+-- no field is left
+unfoldable pub ended : List Field → Result (Unit {0}) Why
+ended [] = Ok tt
+ended (f ∷ fs) = Err why.Extra
+
+-- the next field is read, and k goes on with it and the fields after
+abbrev pub then : {A B : Type 0} → (List Field → Result A Why) → List Field → (A → List Field → Result B Why) → Result B Why
+then read fs k = on (read fs) (λ x. k x (rest fs))
 
 -- the answer, where no field is left
-unfoldable pub closed : List Field → Line → Line
-closed [] l = l
-closed (f ∷ fs) l = Bad why.Extra
+abbrev pub closed : {A : Type 0} → List Field → A → Result A Why
+closed fs x = on (ended fs) (λ u. Ok x)
 
 abbrev pub timestamp : ℕ → RtmpTimestamp
 timestamp n = record { 0 = n }
@@ -68,56 +75,48 @@ timestamp n = record { 0 = n }
 abbrev pub stream : ℕ → StreamNumber
 stream n = record { 0 = n }
 
-unfoldable pub bytes_line : RtmpTimestamp → List Field → Line
-bytes_line clock fs = then_number fs (λ count gs. closed gs (Bytes clock count))
+abbrev pub bytes_line : RtmpTimestamp → List Field → Result Line Why
+bytes_line clock fs = then number_of fs (λ count gs. closed gs (Bytes clock count))
 
--- the stream and the body of a message
-unfoldable pub msg_tail : RtmpTimestamp → ℕ → RtmpTimestamp → List Field → Line
-msg_tail clock kind time fs = then_number fs (λ x gs. then_hex gs (λ body hs. closed hs (Msg clock kind time (stream x) body)))
-
-unfoldable pub msg_line : RtmpTimestamp → List Field → Line
+abbrev pub msg_line : RtmpTimestamp → List Field → Result Line Why
 msg_line clock fs =
-    then_number fs (λ kind gs. cond (ltb 255 kind) (Bad why.Number)
-    (then_number gs (λ time hs. msg_tail clock kind (timestamp time) hs)))
+    then number_of fs (λ kind gs. cond (ltb 255 kind) (Err why.Number)
+    (then number_of gs (λ time hs. then number_of hs (λ x is. then hex_of is (λ body js.
+    closed js (Msg clock kind (timestamp time) (stream x) body))))))
 
-unfoldable pub connect_line : RtmpTimestamp → List Field → Line
-connect_line clock fs = then_text fs (λ app gs. closed gs (Connect clock app))
+abbrev pub connect_line : RtmpTimestamp → List Field → Result Line Why
+connect_line clock fs = then text_of fs (λ app gs. closed gs (Connect clock app))
 
-unfoldable pub play_line : RtmpTimestamp → List Field → Line
-play_line clock fs = then_text fs (λ key gs. closed gs (Play clock key))
+abbrev pub play_line : RtmpTimestamp → List Field → Result Line Why
+play_line clock fs = then text_of fs (λ key gs. closed gs (Play clock key))
 
-unfoldable pub publish_line : RtmpTimestamp → List Field → Line
-publish_line clock fs = then_text fs (λ key gs. then_kind gs (λ t hs. closed hs (Publish clock key t)))
+abbrev pub publish_line : RtmpTimestamp → List Field → Result Line Why
+publish_line clock fs = then text_of fs (λ key gs. then kind_of gs (λ t hs. closed hs (Publish clock key t)))
 
 -- time, droppable flag and body of a picture or a sound
-unfoldable pub then_media : List Field → (RtmpTimestamp → Bool → Span → Line) → Line
-then_media fs k = then_number fs (λ time gs. then_flag gs (λ droppable hs. then_hex hs (λ body js. closed js (k (timestamp time) droppable body))))
+abbrev pub media_line : (RtmpTimestamp → Bool → Span → Line) → List Field → Result Line Why
+media_line k fs = then number_of fs (λ time gs. then flag_of gs (λ droppable hs. then hex_of hs (λ body js. closed js (k (timestamp time) droppable body))))
 
--- a tcUrl, if one is configured
-unfoldable pub then_url : List Field → (TextAt → Line) → Line
-then_url [] k = k Absent
-then_url (f ∷ fs) k = closed fs (k (TextThere f.start (length f.bytes)))
-
-abbrev pub settings : Span → ℕ → ℕ → ℕ → TextAt → Settings
+abbrev pub settings : Span → ℕ → ℕ → ℕ → Option Span → Settings
 settings flash buffer window chunk url = record { flash = flash; buffer = buffer; window = window; chunk = chunk; url = url }
 
-unfoldable pub open_tail : Span → ℕ → ℕ → List Field → Line
-open_tail flash buffer window fs = then_number fs (λ chunk gs. then_url gs (λ url. Open (settings flash buffer window chunk url)))
+-- flash version, buffer length, window size, chunk size and, if one is configured, tcUrl
+abbrev pub settings_of : Span → List Field → Result Settings Why
+settings_of flash fs =
+    then number_of fs (λ buffer gs. then number_of gs (λ window hs. then number_of hs (λ chunk is.
+    closed (rest is) (settings flash buffer window chunk (result_ok (text_of is))))))
 
-unfoldable pub open_sizes : Span → List Field → Line
-open_sizes flash fs = then_number fs (λ buffer gs. then_number gs (λ window hs. open_tail flash buffer window hs))
+-- no field, or the settings
+unfoldable pub open_line : List Field → Result Line Why
+open_line [] = Ok OpenDefault
+open_line (f ∷ fs) = on (settings_of (span_of f) fs) (λ s. Ok (Open s))
 
--- no field, or the settings: flash version, buffer length, window size, chunk size and, if one is configured, tcUrl
-unfoldable pub open_line : List Field → Line
-open_line [] = OpenDefault
-open_line (f ∷ fs) = open_sizes (span_of f) fs
-
-unfoldable pub space_line : List Field → Line
-space_line fs = then_number fs (λ n gs. closed gs (Space n))
+abbrev pub space_line : List Field → Result Line Why
+space_line fs = then number_of fs (λ n gs. closed gs (Space n))
 
 -- the verb's field ends at `end`, and fs are those after it
-unfoldable pub verb_line : RtmpTimestamp → Verb → ℕ → List Field → Line
-verb_line clock verbs.Unknown end fs = Bad why.Verb
+abbrev pub verb_line : RtmpTimestamp → Verb → ℕ → List Field → Result Line Why
+verb_line clock verbs.Unknown end fs = Err why.Verb
 verb_line clock verbs.Bytes end fs = bytes_line clock fs
 verb_line clock verbs.Msg end fs = msg_line clock fs
 verb_line clock verbs.Connect end fs = connect_line clock fs
@@ -126,38 +125,20 @@ verb_line clock verbs.Publish end fs = publish_line clock fs
 verb_line clock verbs.StopPlayback end fs = closed fs (StopPlayback clock)
 verb_line clock verbs.StopPublishing end fs = closed fs (StopPublishing clock)
 verb_line clock verbs.Ping end fs = closed fs (Ping clock)
-verb_line clock verbs.Video end fs = then_media fs (Video clock)
-verb_line clock verbs.Audio end fs = then_media fs (Audio clock)
-verb_line clock verbs.Metadata end fs = Metadata clock end
+verb_line clock verbs.Video end fs = media_line (Video clock) fs
+verb_line clock verbs.Audio end fs = media_line (Audio clock) fs
+verb_line clock verbs.Metadata end fs = Ok (Metadata clock end)
 verb_line clock verbs.Open end fs = open_line fs
 verb_line clock verbs.Space end fs = space_line fs
 
-unfoldable pub call_line : RtmpTimestamp → List Field → Line
-call_line clock [] = Bad why.Missing
+unfoldable pub call_line : RtmpTimestamp → List Field → Result Line Why
+call_line clock [] = Err why.Missing
 call_line clock (f ∷ fs) = verb_line clock (verb_of f.bytes) (end_of f) fs
 
-unfoldable pub bare_line : List ℕ → Line
-bare_line [] = Empty
-bare_line (x ∷ xs) = then_number (fields_from 0 (x ∷ xs)) (λ clock fs. call_line (timestamp clock) fs)
+unfoldable pub bare_line : List ℕ → Result Line Why
+bare_line [] = Ok Empty
+bare_line (x ∷ xs) = then number_of (fields_at (x ∷ xs) 0) (λ clock fs. call_line (timestamp clock) fs)
 
 -- a line, without its newline
-abbrev pub line_of : List ℕ → Line
+abbrev pub line_of : List ℕ → Result Line Why
 line_of s = bare_line (bare s)
-
--- What a reader of one field of s found, when fs are the fields from there on: whatever goes on with the field does so.
-abbrev pub on_number : Num → (ℕ → ℕ → Line) → Line
-on_number (num.No w) k = Bad w
-on_number (num.Is n end) k = k n end
-
-abbrev pub FindsNumber : List ℕ → List Field → Num → Type 0
-FindsNumber s fs r = (k : ℕ → List Field → Line) → then_number fs k ≡ on_number r (λ n end. k n (fields_after s end))
-
-abbrev pub on_part : Part → (Span → ℕ → Line) → Line
-on_part (part.No w) k = Bad w
-on_part (part.At p end) k = k p end
-
-abbrev pub FindsText : List ℕ → List Field → Part → Type 0
-FindsText s fs r = (k : Span → List Field → Line) → then_text fs k ≡ on_part r (λ p end. k p (fields_after s end))
-
-abbrev pub FindsHex : List ℕ → List Field → Part → Type 0
-FindsHex s fs r = (k : Span → List Field → Line) → then_hex fs k ≡ on_part r (λ p end. k p (fields_after s end))

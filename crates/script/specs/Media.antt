@@ -1,27 +1,12 @@
--- What the readers of a picture's or a sound's fields find: whatever goes on with them does so.
+-- What a reader makes of a picture's or a sound's fields.
 -- Assumes nothing.
-use Rattle.std.specs.Prelude.{◌≡◌, Bool, List}
+use Rattle.std.specs.Prelude.{Bool, List, Result}
 use Rattle.messages.specs.declared.ids.RtmpTimestamp.{RtmpTimestamp}
-use Rattle.script.specs.declared.asked.Line.{Line}
-use Rattle.script.specs.declared.asked.Line.TheVariants.{Bad}
-use Rattle.script.specs.declared.fields.Span.{Span}
-use Rattle.script.specs.declared.fields.Part.{Part}
-use Rattle.script.specs.declared.media.Media.{Media}
-use Rattle.script.specs.declared.media.Media.TheVariants.{No, Is}
+use Rattle.octets.specs.declared.span.Span.{Span}
+use Rattle.script.specs.declared.reasons.Why.{Why}
 use Rattle.script.specs.Fields.{Field}
-use Rattle.script.specs.Lines.{then_hex, then_flag, then_media, closed, on_part}
+use Rattle.script.specs.Lines.{then, closed, number_of, flag_of, hex_of, timestamp}
 
-abbrev pub FindsBody : List Field → Part → Type 0
-FindsBody fs r = (k : Span → Line) → then_hex fs (λ body gs. closed gs (k body)) ≡ on_part r (λ body end. k body)
-
-abbrev pub on_media : Media → (RtmpTimestamp → Bool → Span → Line) → Line
-on_media (No w) k = Bad w
-on_media (Is time droppable body) k = k time droppable body
-
-abbrev pub FindsRest : List Field → RtmpTimestamp → Media → Type 0
-FindsRest fs time r =
-    (k : RtmpTimestamp → Bool → Span → Line)
-    → then_flag fs (λ droppable gs. then_hex gs (λ body hs. closed hs (k time droppable body))) ≡ on_media r k
-
-abbrev pub FindsMedia : List Field → Media → Type 0
-FindsMedia fs r = (k : RtmpTimestamp → Bool → Span → Line) → then_media fs k ≡ on_media r k
+-- time, droppable flag and body, as the last fields
+abbrev pub media_of : List Field → Result (RtmpTimestamp × Bool × Span) Why
+media_of fs = then number_of fs (λ time gs. then flag_of gs (λ droppable hs. then hex_of hs (λ body js. closed js (timestamp time, droppable, body))))

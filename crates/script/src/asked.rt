@@ -1,10 +1,8 @@
 // What a line asks for.
-use crate::fields::Span;
-use crate::reasons::Why;
-use amf0::TextAt;
 use messages::{PublishRequestType, RtmpTimestamp, StreamNumber};
+use octets::Span;
 
-// What a session is opened with: the places of the flash version and of the tcUrl, Absent where none is configured; the length of the playback buffer
+// What a session is opened with: the places of the flash version and of the tcUrl, None where none is configured; the length of the playback buffer
 // in milliseconds; the window and the chunk size.
 #[derive(Clone, Copy)]
 pub struct Settings {
@@ -12,14 +10,13 @@ pub struct Settings {
     pub buffer: u32,
     pub window: u32,
     pub chunk: u32,
-    pub url: TextAt,
+    pub url: Option<Span>,
 }
 
 // The first of a call's values is the clock. A Span is the place of a text or of a body's digits in the line.
 #[derive(Clone, Copy)]
 pub enum Line {
     Empty,
-    Bad(Why),
     // a count
     Bytes(RtmpTimestamp, u32),
     // type, time, stream and body of a message that came

@@ -1,31 +1,110 @@
-// A line's fields, one after the other. A reader is handed the end of the field before.
-ghost use Rattle.std.specs.Prelude.{◌≡◌, ◌+◌, ◌-◌, ◌≤◌, length, drop, take};
-ghost use Rattle.script.specs.Fields.{until, bare, fields_from, fields_after};
-ghost use Rattle.script.specs.Lines.{FindsNumber, FindsText, FindsHex};
+// A line's fields, taken one after the other.
+ghost use Rattle.std.specs.Prelude.{◌≡◌, ◌+◌, ◌-◌, ◌≤◌, Ok, Err, IfOk, MatchResult, length, drop};
+ghost use Rattle.script.specs.Fields.{until, bare, fields_at, fields_after, left};
+ghost use Rattle.script.specs.Lines.{rest, ended, word_of, text_of, number_of, hex_of, flag_of};
 
 use crate::reasons::Why;
-use crate::{decimal, hex};
-use messages::OptionU32;
+use crate::{decimal, hex, named};
+use octets::Span;
 
-// A place in the line.
-#[derive(Clone, Copy)]
-pub struct Span {
-    pub start: usize,
-    pub len: usize,
+// The fields of a line that are left: the next starts at `next`, and none is left where that is past the line's end.
+#[derive(Clone, Copy, Debug)]
+pub(crate) struct Fields<'a> {
+    pub(crate) line: &'a [u8],
+    pub(crate) next: usize,
 }
 
-// A number and the end of its field.
-#[derive(Clone, Copy)]
-pub(crate) enum Num {
-    No(Why),
-    Is(u32, usize),
+impl<'a> Fields<'a> {
+    pub(crate) fn new(line: &'a [u8]) -> Fields<'a>
+        ensures { left result ≡ fields_at line.now 0 }
+    {
+        Fields { line, next: 0 }
+    }
+
+    // Those after the field that ends at `end`.
+    pub(crate) fn after(line: &'a [u8], end: usize) -> Fields<'a>
+        ensures line { result.line.now ≡ line.now }
+        ensures left { left result ≡ fields_after line.now end }
+    {
+        let next = end.min(line.len()) + 1;
+        Fields { line, next }
+    }
+
+    // The next field.
+    pub(crate) fn word(&mut self) -> Result<&'a [u8], Why>
+        ensures word { MatchResult result (λ w. word_of (left self.old) ≡ Ok w.now) (λ e. word_of (left self.old) ≡ Err e) }
+        ensures rest { left self.new ≡ rest (left self.old) }
+        ensures next { IfOk result (λ w. self.new.next ≡ self.old.next + length w.now + 1) }
+        ensures within { IfOk result (λ w. self.new.next ≤ length self.old.line.now + 1) }
+        ensures line { self.new.line.now ≡ self.old.line.now }
+    {
+        let Some(rest) = self.line.get(self.next..) else {
+            return Err(Why::Missing);
+        };
+        let len = until(rest, b'\t');
+        self.next += len + 1;
+        Ok(&rest[..len])
+    }
+
+    // The place of a text.
+    pub(crate) fn text(&mut self) -> Result<Span, Why>
+        ensures value { result ≡ text_of (left self.old) }
+        ensures rest { left self.new ≡ rest (left self.old) }
+    {
+        let start = self.next;
+        let len = self.word()?.len();
+        Ok(Span { start, len })
+    }
+
+    #[tactic(auto, unfolding(crate::specs::Lines::number_of))]
+    pub(crate) fn number(&mut self) -> Result<u32, Why>
+        ensures value { result ≡ number_of (left self.old) }
+        ensures rest { left self.new ≡ rest (left self.old) }
+    {
+        let word = self.word()?;
+        decimal::number(word).ok_or(Why::Number)
+    }
+
+    // The place of hexadecimal digits.
+    pub(crate) fn hex(&mut self) -> Result<Span, Why>
+        ensures value { result ≡ hex_of (left self.old) }
+        ensures rest { left self.new ≡ rest (left self.old) }
+    {
+        let start = self.next;
+        let word = self.word()?;
+        if !hex::is_hex(word) {
+            return Err(Why::Hex);
+        }
+        let len = word.len();
+        Ok(Span { start, len })
+    }
+
+    #[tactic(auto, unfolding(crate::specs::Lines::flag_of))]
+    pub(crate) fn flag(&mut self) -> Result<bool, Why>
+        ensures value { result ≡ flag_of (left self.old) }
+        ensures rest { left self.new ≡ rest (left self.old) }
+    {
+        let n = self.number()?;
+        named::flag(n).ok_or(Why::Flag)
+    }
+
+    // That no field is left.
+    pub(crate) fn end(&self) -> Result<(), Why>
+        ensures { result ≡ ended (left self.now) }
+    {
+        if self.next <= self.line.len() {
+            return Err(Why::Extra);
+        }
+        Ok(())
+    }
 }
 
-// A field's place and its end.
-#[derive(Clone, Copy)]
-pub(crate) enum Part {
-    No(Why),
-    At(Span, usize),
+// How many bytes stand before the first b.
+fn until(s: &[u8], b: u8) -> usize
+    ensures value { result ≡ until b s.now }
+    ensures within { result ≤ length s.now }
+{
+    s.iter().position(|x| *x == b).unwrap_or(s.len())
 }
 
 // Where the first b from `at` on stands, or the end.
@@ -33,84 +112,15 @@ pub fn find(s: &[u8], at: usize, b: u8) -> usize
     ensures value { result ≡ at + until b (drop at s.now) }
     ensures within { (at ≤ result) × (result ≤ at + (length s.now - at)) }
 {
-    let mut i = at;
-    while i < s.len() {
-        if s[i] == b {
-            return i;
-        }
-        i += 1;
-    }
-    i
+    let Some(rest) = s.get(at..) else {
+        return at;
+    };
+    at + until(rest, b)
 }
 
-// How long the line is without the carriage return at its end.
-pub(crate) fn bare_len(s: &[u8]) -> usize
-    ensures { (result ≤ length s.now) × (take result s.now ≡ bare s.now) }
+// The line without the carriage return at its end.
+pub(crate) fn bare(s: &[u8]) -> &[u8]
+    ensures { result.now ≡ bare s.now }
 {
-    let n = s.len();
-    if n == 0 {
-        return n;
-    }
-    if s[n - 1] == 13 {
-        return n - 1;
-    }
-    n
-}
-
-// The number in the field that starts at `at`.
-pub(crate) fn number_at(s: &[u8], at: usize) -> Num
-    requires { at ≤ length s.now }
-    ensures { FindsNumber s.now (fields_from at (drop at s.now)) result }
-{
-    let end = find(s, at, 9);
-    match decimal::number(&s[at..end]) {
-        OptionU32::None => Num::No(Why::Number),
-        OptionU32::Some(n) => Num::Is(n, end),
-    }
-}
-
-pub(crate) fn number_after(s: &[u8], before: usize) -> Num
-    ensures { FindsNumber s.now (fields_after s.now before) result }
-{
-    if before < s.len() {
-        return number_at(s, before + 1);
-    }
-    Num::No(Why::Missing)
-}
-
-pub(crate) fn text_after(s: &[u8], before: usize) -> Part
-    ensures { FindsText s.now (fields_after s.now before) result }
-{
-    if before < s.len() {
-        let from = before + 1;
-        let end = find(s, from, 9);
-        return Part::At(
-            Span {
-                start: from,
-                len: end - from,
-            },
-            end,
-        );
-    }
-    Part::No(Why::Missing)
-}
-
-pub(crate) fn hex_after(s: &[u8], before: usize) -> Part
-    ensures { FindsHex s.now (fields_after s.now before) result }
-{
-    if before < s.len() {
-        let from = before + 1;
-        let end = find(s, from, 9);
-        if hex::is_hex(&s[from..end]) {
-            return Part::At(
-                Span {
-                    start: from,
-                    len: end - from,
-                },
-                end,
-            );
-        }
-        return Part::No(Why::Hex);
-    }
-    Part::No(Why::Missing)
+    s.strip_suffix(b"\r").unwrap_or(s)
 }

@@ -1,91 +1,56 @@
 // Hexadecimal text, of both cases.
 ghost use Rattle.std.specs.Prelude.{◌≡◌, ◌*◌, ◌≤◌, length};
 ghost use Rattle.std.proofs.lemmas.List.Edits.{sets};
-ghost use Rattle.script.specs.Hex.{value_of, all_digits, is_hex, pairs, unhex_of, unhex_into};
+ghost use Rattle.script.specs.Hex.{value_of, is_hex, pairs, unhex_of, unhex_into};
 
-// How many bytes were decoded; or that the text is no hexadecimal, or the output too short.
-#[derive(Clone, Copy)]
-pub enum Unhexed {
-    Done(usize),
-    Bad,
+// Text that is no hexadecimal, or an output that is too short for its bytes.
+#[derive(Clone, Copy, Debug, PartialEq, Eq)]
+pub enum UnhexError {
+    NotHex,
     NoSpace,
 }
 
-// The value of a digit; 16 of any other byte.
-fn digit_value(b: u8) -> u8
+fn digit_value(b: u8) -> Option<u8>
     ensures { result ≡ value_of b }
 {
-    if b < 48 {
-        return 16;
+    match b {
+        b'0'..=b'9' => Some(b - b'0'),
+        b'A'..=b'F' => Some(b - b'A' + 10),
+        b'a'..=b'f' => Some(b - b'a' + 10),
+        _ => None,
     }
-    if b < 58 {
-        return b - 48;
-    }
-    if b < 65 {
-        return 16;
-    }
-    if b < 71 {
-        return b - 55;
-    }
-    if b < 97 {
-        return 16;
-    }
-    if b < 103 {
-        return b - 87;
-    }
-    16
-}
-
-fn all_digits(s: &[u8]) -> bool
-    ensures { result ≡ all_digits s.now }
-{
-    let mut i = 0;
-    while i < s.len() {
-        if digit_value(s[i]) == 16 {
-            return false;
-        }
-        i += 1;
-    }
-    true
 }
 
 // Whether s is an even number of digits.
 pub(crate) fn is_hex(s: &[u8]) -> bool
     ensures { result ≡ is_hex s.now }
 {
-    if s.len() % 2 != 0 {
-        return false;
-    }
-    all_digits(s)
+    s.len() % 2 == 0 && s.iter().all(|b| digit_value(*b).is_some())
 }
 
 fn decode(s: &[u8], out: &mut [u8])
     requires { length s.now ≤ 2 * length out.old }
     ensures { out.new ≡ sets out.old 0 (pairs s.now) }
 {
-    let mut i = 0;
-    let mut j = 0;
-    while 1 < s.len() - j {
-        let hi = digit_value(s[j]) % 16;
-        let lo = digit_value(s[j + 1]) % 16;
+    for i in 0..s.len() / 2 {
+        let hi = digit_value(s[2 * i]).unwrap_or(0);
+        let lo = digit_value(s[2 * i + 1]).unwrap_or(0);
         out[i] = 16 * hi + lo;
-        i += 1;
-        j += 2;
     }
 }
 
-// The bytes that s stands for, from output byte 0 on.
-pub fn unhex(s: &[u8], out: &mut [u8]) -> Unhexed
+// The bytes that s stands for, from output byte 0 on; how many they are.
+pub fn unhex(s: &[u8], out: &mut [u8]) -> Result<usize, UnhexError>
     ensures value { result ≡ unhex_of s.now out.old }
     ensures out_after { out.new ≡ unhex_into s.now out.old }
 {
     if !is_hex(s) {
-        return Unhexed::Bad;
+        return Err(UnhexError::NotHex);
     }
     let n = s.len() / 2;
     if out.len() < n {
-        return Unhexed::NoSpace;
+        return Err(UnhexError::NoSpace);
     }
     decode(s, out);
-    Unhexed::Done(n)
+    Ok(n)
 }

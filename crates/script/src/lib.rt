@@ -14,8 +14,8 @@ mod reasons;
 mod verbs;
 
 pub use asked::{Line, Settings};
-pub use fields::{Span, find};
-pub use hex::{Unhexed, unhex};
+pub use fields::find;
+pub use hex::{UnhexError, unhex};
 pub use lines::read_line;
-pub use metadata::{MetadataRead, read_metadata};
+pub use metadata::read_metadata;
 pub use reasons::Why;

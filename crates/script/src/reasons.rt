@@ -1,5 +1,10 @@
 // Why a line can't be read.
-#[derive(Clone, Copy)]
+ghost use Rattle.std.specs.Prelude.{◌≡◌};
+ghost use Rattle.script.specs.Hex.{why_of};
+
+use crate::hex::UnhexError;
+
+#[derive(Clone, Copy, Debug, PartialEq, Eq)]
 pub enum Why {
     Missing,
     Extra,
@@ -14,4 +19,16 @@ pub enum Why {
     Name,
     LineLength,
     BodyLength,
+}
+
+// A body's digits can't be decoded.
+impl From<UnhexError> for Why {
+    ghost from_gives = { λ e w. w ≡ why_of e };
+
+    fn from(e: UnhexError) -> Why {
+        match e {
+            UnhexError::NotHex => Why::Hex,
+            UnhexError::NoSpace => Why::BodyLength,
+        }
+    }
 }

@@ -4,58 +4,48 @@
 mod input;
 mod lines;
 mod open;
+mod output;
 mod results;
 mod values;
-mod waiting;
 
+use input::Input;
+use lines::Run;
+use output::Output;
+use std::io;
 use std::io::{Stderr, Stdin, Stdout};
 
-// Until the input ends or can't be read, or a result can't be written. A line longer than `buf`, or a body longer than `body`, isn't run; `out` is lent
-// to the calls, and results wait in `text`.
-fn go_on(
-    stdin: Stdin,
-    stdout: Stdout,
-    stderr: Stderr,
-    telling: bool,
-    buf: &mut [u8],
-    body: &mut [u8],
-    out: &mut [u8],
-    text: &mut [u8],
-) {
-    let mut running = lines::start(stdin, stdout, stderr, telling);
-    let mut turns = u64::MAX;
-    while turns > 0 {
-        turns -= 1;
-        running = input::step(running, buf, body, out, text);
-        let st = running.standing;
-        if !st.going {
-            return;
-        }
-    }
+// What is told of each line.
+#[derive(Clone, Copy)]
+pub enum Telling {
+    // document 01's result lines
+    Results,
+    // those with the values of events, and after each line what is open: the active stream and the open requests
+    Values,
 }
 
-// Document 01's result lines.
+// Until the input ends or can't be read, or a result can't be written.
+fn go_on(run: &mut Run<'_>, input: &mut Input<'_>) -> io::Result<()> {
+    for _ in 0..u64::MAX {
+        if !run.turn(input)? {
+            break;
+        }
+    }
+    Ok(())
+}
+
+// A line longer than `buf`, or a body longer than `body`, isn't run; `out` is lent to the calls, and results wait in `text`.
 pub fn run(
     stdin: Stdin,
     stdout: Stdout,
     stderr: Stderr,
+    telling: Telling,
     buf: &mut [u8],
     body: &mut [u8],
     out: &mut [u8],
     text: &mut [u8],
 ) {
-    go_on(stdin, stdout, stderr, false, buf, body, out, text)
-}
-
-// Those with the values of events, and after each line what is open: the active stream and the open requests.
-pub fn run_telling(
-    stdin: Stdin,
-    stdout: Stdout,
-    stderr: Stderr,
-    buf: &mut [u8],
-    body: &mut [u8],
-    out: &mut [u8],
-    text: &mut [u8],
-) {
-    go_on(stdin, stdout, stderr, true, buf, body, out, text)
+    let mut input = Input::new(stdin, buf);
+    let mut run = Run::new(telling, Output::new(stdout, stderr, text), body, out);
+    // What failed has been told of.
+    let _ = go_on(&mut run, &mut input);
 }

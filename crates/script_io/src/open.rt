@@ -1,135 +1,72 @@
 // What is open after a line: the active stream, and the requests that wait for a reply, by their numbers, so that their places don't show.
-use crate::waiting::{Waiting, grown, number, put, room};
-use messages::PublishRequestType;
-use requests::{OutstandingTransaction, Place, Slot, TransactionPurpose};
-use session::{ActiveStream, ClientSession, ClientState};
+use crate::output::Output;
+use messages::{PublishRequestType, StreamNumber};
+use requests::{OutstandingTransaction, Place, TransactionPurpose};
+use session::ClientSession;
+use std::io;
 
-fn active_stream(text: &mut [u8], waiting: Waiting, active: ActiveStream) -> Waiting {
-    match active {
-        ActiveStream::None => put(text, waiting, b"-"),
-        ActiveStream::Some(stream) => number(text, waiting, stream.0 as u64),
-    }
-}
-
-fn publish_type(text: &mut [u8], waiting: Waiting, kind: PublishRequestType) -> Waiting {
+fn name_of(kind: OutstandingTransaction) -> &'static [u8] {
     match kind {
-        PublishRequestType::Live => put(text, waiting, b":publish:live"),
-        PublishRequestType::Record => put(text, waiting, b":publish:record"),
-        PublishRequestType::Append => put(text, waiting, b":publish:append"),
-    }
-}
-
-fn purpose_of(text: &mut [u8], waiting: Waiting, purpose: TransactionPurpose) -> Waiting {
-    match purpose {
-        TransactionPurpose::PlayRequest => put(text, waiting, b":play"),
-        TransactionPurpose::PublishRequest(kind) => publish_type(text, waiting, kind),
-    }
-}
-
-fn kind_of(text: &mut [u8], waiting: Waiting, kind: OutstandingTransaction) -> Waiting {
-    match kind {
-        OutstandingTransaction::ConnectionRequested => put(text, waiting, b":connect"),
-        OutstandingTransaction::CreateStream(purpose) => purpose_of(text, waiting, purpose),
-    }
-}
-
-// The number of a request above `last`; u64::MAX for a free place and any other number.
-fn number_above(slot: Slot, last: u64) -> u64 {
-    match slot {
-        Slot::Free => u64::MAX,
-        Slot::Open(given, _) => {
-            let n = given.0 as u64;
-            if last < n {
-                return n;
+        OutstandingTransaction::ConnectionRequested => b":connect",
+        OutstandingTransaction::CreateStream(TransactionPurpose::PlayRequest) => b":play",
+        OutstandingTransaction::CreateStream(TransactionPurpose::PublishRequest(kind)) => {
+            match kind {
+                PublishRequestType::Live => b":publish:live",
+                PublishRequestType::Record => b":publish:record",
+                PublishRequestType::Append => b":publish:append",
             }
-            u64::MAX
         }
     }
 }
 
-// The one whose number above `last` is the lesser.
-fn nearer(a: Slot, b: Slot, last: u64) -> Slot {
-    if number_above(b, last) < number_above(a, last) {
-        return b;
-    }
-    a
+// The number of an open request, and what it asks for.
+fn request_in(place: &Place) -> Option<(u32, OutstandingTransaction)> {
+    place.request.map(|(number, kind)| (number.0, kind))
 }
 
-// The request with the least number above `last`, or Free where there is none.
-fn next_above(places: [Place; 8], last: u64) -> Slot {
-    let mut found = Slot::Free;
-    let mut i = 0;
-    while i < 8 {
-        let place = places[i];
-        let slot = place.slot;
-        found = nearer(found, slot, last);
-        i += 1;
-    }
-    found
+// The request with the least number above `last`, which is None before the first.
+fn next_above(places: &[Place; 8], last: Option<u32>) -> Option<(u32, OutstandingTransaction)> {
+    places
+        .iter()
+        .filter_map(request_in)
+        .filter(|request| last < Some(request.0))
+        .min_by_key(|request| request.0)
 }
 
-// A comma before each request but the first, before which `last` is 0.
-fn parted(text: &mut [u8], waiting: Waiting, last: u64) -> Waiting {
-    if last == 0 {
-        return waiting;
-    }
-    put(text, waiting, b",")
-}
-
-fn request(text: &mut [u8], waiting: Waiting, slot: Slot, last: u64) -> Waiting {
-    match slot {
-        Slot::Free => waiting,
-        Slot::Open(given, kind) => {
-            let a = parted(text, waiting, last);
-            let b = number(text, a, given.0 as u64);
-            kind_of(text, b, kind)
+impl Output<'_> {
+    fn active_stream(&mut self, active: Option<StreamNumber>) -> io::Result<()> {
+        match active {
+            None => self.put(b"-"),
+            Some(stream) => self.number(u64::from(stream.0)),
         }
     }
-}
 
-fn requests(text: &mut [u8], waiting: Waiting, places: [Place; 8]) -> Waiting {
-    let mut after = waiting;
-    let mut last = 0;
-    let mut i: usize = 0;
-    while i < 8 {
-        let slot = next_above(places, last);
-        after = request(text, after, slot, last);
-        last = number_above(slot, last);
-        i += 1;
+    // The requests with a comma between them, or `-` where none is open.
+    fn open_requests(&mut self, places: &[Place; 8]) -> io::Result<()> {
+        let mut last = None;
+        for _ in 0..8 {
+            let Some((number, kind)) = next_above(places, last) else {
+                break;
+            };
+            if last.is_some() {
+                self.put(b",")?;
+            }
+            self.number(u64::from(number))?;
+            self.put(name_of(kind))?;
+            last = Some(number);
+        }
+        if last.is_none() {
+            return self.put(b"-");
+        }
+        Ok(())
     }
-    after
-}
 
-// A request with each number, or `-` where none is open.
-fn open_requests(text: &mut [u8], waiting: Waiting, places: [Place; 8]) -> Waiting {
-    let first = next_above(places, 0);
-    match first {
-        Slot::Free => put(text, waiting, b"-"),
-        Slot::Open(_, _) => requests(text, waiting, places),
+    pub(crate) fn open_line(&mut self, line: u64, session: &ClientSession) -> io::Result<()> {
+        let stage = session.progress.state;
+        self.piece(|text, at| script_results::write_open(text, at, line, stage))?;
+        self.active_stream(session.progress.active)?;
+        self.put(b"\t")?;
+        self.open_requests(&session.requests.places)?;
+        self.put(b"\n")
     }
-}
-
-fn head(text: &mut [u8], waiting: Waiting, line: u64, stage: ClientState) -> Waiting {
-    let ready = room(text, waiting);
-    let used = ready.used;
-    let wrote = script_results::write_open(text, used, line, stage);
-    grown(ready, wrote)
-}
-
-pub(crate) fn open_line(
-    text: &mut [u8],
-    waiting: Waiting,
-    line: u64,
-    stage: ClientState,
-    session: ClientSession,
-) -> Waiting {
-    let progress = session.progress;
-    let active = progress.active;
-    let table = session.requests;
-    let places = table.places;
-    let a = head(text, waiting, line, stage);
-    let b = active_stream(text, a, active);
-    let c = put(text, b, b"\t");
-    let d = open_requests(text, c, places);
-    put(text, d, b"\n")
 }

@@ -1,176 +1,75 @@
-// Result lines, and messages on standard error.
-use crate::waiting::{Waiting, digits, grown, put, room};
-use crate::{values, waiting};
-use octets::Wrote;
-use script::Why;
+// Result lines.
+use crate::output::Output;
 use session::{
     ClientSessionError, ClientSessionEvent, ClientSessionResult, ClientState, Outcome, Packet,
 };
-use std::io::Stderr;
+use std::io;
 
-// Says what is wrong with the line of that number.
-pub(crate) fn complain(to: Stderr, line: u64, why: Why) {
-    let mut text = [0u8; 128];
-    let wrote = script_results::write_complaint(&mut text, 0, line, why);
-    match wrote {
-        Wrote::NoSpace => {}
-        Wrote::Done(n) => waiting::complain(to, octets::part(&text, 0, n)),
+// What the results of a line are told with: its number, the stage after it, where bodies of messages to send lie, and, where events are told with
+// their values, the body of the message that came.
+#[derive(Clone, Copy)]
+pub struct Results<'a> {
+    pub line: u64,
+    pub stage: ClientState,
+    pub out: &'a [u8],
+    pub message: Option<&'a [u8]>,
+}
+
+impl Results<'_> {
+    // A message to send, whose body lies in out.
+    fn packet(&self, output: &mut Output<'_>, sent: Packet) -> io::Result<()> {
+        output.piece(|text, at| script_results::write_packet(
+            text, at, self.line, self.stage, sent,
+        ))?;
+        output.digits(octets::part(self.out, sent.start, sent.len))?;
+        output.put(b"\n")
     }
-}
 
-// A message to send, whose body lies in out.
-fn packet(
-    text: &mut [u8],
-    waiting: Waiting,
-    line: u64,
-    stage: ClientState,
-    sent: Packet,
-    out: &[u8],
-) -> Waiting {
-    let ready = room(text, waiting);
-    let start = sent.start;
-    let len = sent.len;
-    let used = ready.used;
-    let wrote = script_results::write_packet(text, used, line, stage, sent);
-    let head = grown(ready, wrote);
-    let whole = digits(text, head, octets::part(out, start, len));
-    put(text, whole, b"\n")
-}
-
-// An event up to its values.
-fn event_head(
-    text: &mut [u8],
-    waiting: Waiting,
-    line: u64,
-    stage: ClientState,
-    raised: ClientSessionEvent,
-) -> Waiting {
-    let ready = room(text, waiting);
-    let used = ready.used;
-    let wrote = script_results::write_event(text, used, line, stage, raised);
-    grown(ready, wrote)
-}
-
-// An event, with its values where they are told: those that are places lie in `body`.
-fn event(
-    text: &mut [u8],
-    waiting: Waiting,
-    line: u64,
-    stage: ClientState,
-    raised: ClientSessionEvent,
-    telling: bool,
-    body: &[u8],
-) -> Waiting {
-    let head = event_head(text, waiting, line, stage, raised);
-    if telling {
-        let whole = values::event(text, head, raised, body);
-        return put(text, whole, b"\n");
-    }
-    put(text, head, b"\n")
-}
-
-fn unhandled(
-    text: &mut [u8],
-    waiting: Waiting,
-    line: u64,
-    stage: ClientState,
-    type_id: u8,
-) -> Waiting {
-    let ready = room(text, waiting);
-    let used = ready.used;
-    let wrote = script_results::write_unhandled(text, used, line, stage, type_id);
-    grown(ready, wrote)
-}
-
-fn result(
-    text: &mut [u8],
-    waiting: Waiting,
-    line: u64,
-    stage: ClientState,
-    given: ClientSessionResult,
-    out: &[u8],
-    telling: bool,
-    body: &[u8],
-) -> Waiting {
-    match given {
-        ClientSessionResult::OutboundResponse(p) => packet(text, waiting, line, stage, p, out),
-        ClientSessionResult::RaisedEvent(e) => {
-            event(text, waiting, line, stage, e, telling, body)
+    // An event, with its values where they are told: those that are places lie in the message.
+    fn event(&self, output: &mut Output<'_>, raised: ClientSessionEvent) -> io::Result<()> {
+        output.piece(|text, at| script_results::write_event(
+            text, at, self.line, self.stage, raised,
+        ))?;
+        if let Some(body) = self.message {
+            output.values(raised, body)?;
         }
-        ClientSessionResult::UnhandleableMessageReceived(t) => {
-            unhandled(text, waiting, line, stage, t)
+        output.put(b"\n")
+    }
+
+    fn one(&self, output: &mut Output<'_>, given: ClientSessionResult) -> io::Result<()> {
+        match given {
+            ClientSessionResult::OutboundResponse(sent) => self.packet(output, sent),
+            ClientSessionResult::RaisedEvent(raised) => self.event(output, raised),
+            ClientSessionResult::UnhandleableMessageReceived(type_id) => output.piece(|text, at| {
+                script_results::write_unhandled(text, at, self.line, self.stage, type_id)
+            }),
         }
     }
-}
 
-fn refused(
-    text: &mut [u8],
-    waiting: Waiting,
-    line: u64,
-    stage: ClientState,
-    error: ClientSessionError,
-) -> Waiting {
-    let ready = room(text, waiting);
-    let used = ready.used;
-    let wrote = script_results::write_refused(text, used, line, stage, error);
-    grown(ready, wrote)
-}
-
-fn nothing(text: &mut [u8], waiting: Waiting, line: u64, stage: ClientState) -> Waiting {
-    let ready = room(text, waiting);
-    let used = ready.used;
-    let wrote = script_results::write_none(text, used, line, stage);
-    grown(ready, wrote)
-}
-
-// Two messages to send.
-fn two(
-    text: &mut [u8],
-    waiting: Waiting,
-    line: u64,
-    stage: ClientState,
-    a: Packet,
-    b: Packet,
-    out: &[u8],
-) -> Waiting {
-    let first = packet(text, waiting, line, stage, a, out);
-    packet(text, first, line, stage, b, out)
-}
-
-// A connect that was accepted: its event, which has no values, stands between two messages.
-fn accepted(
-    text: &mut [u8],
-    waiting: Waiting,
-    line: u64,
-    stage: ClientState,
-    a: Packet,
-    b: Packet,
-    out: &[u8],
-) -> Waiting {
-    let first = packet(text, waiting, line, stage, a, out);
-    let raised = ClientSessionEvent::ConnectionRequestAccepted;
-    let head = event_head(text, first, line, stage, raised);
-    let second = put(text, head, b"\n");
-    packet(text, second, line, stage, b, out)
-}
-
-// A line for each result in turn. A ping request's time stands in its message. `body` is that of the message that came.
-pub(crate) fn outcome(
-    text: &mut [u8],
-    waiting: Waiting,
-    line: u64,
-    stage: ClientState,
-    answer: Outcome,
-    out: &[u8],
-    telling: bool,
-    body: &[u8],
-) -> Waiting {
-    match answer {
-        Outcome::Refused(error) => refused(text, waiting, line, stage, error),
-        Outcome::Nothing => nothing(text, waiting, line, stage),
-        Outcome::One(a) => result(text, waiting, line, stage, a, out, telling, body),
-        Outcome::Two(a, b) => two(text, waiting, line, stage, a, b, out),
-        Outcome::Accepted(a, b) => accepted(text, waiting, line, stage, a, b, out),
-        Outcome::Pinged(a, _) => packet(text, waiting, line, stage, a, out),
+    // A line for each result in turn. A ping request's time stands in its message.
+    pub(crate) fn outcome(
+        &self,
+        output: &mut Output<'_>,
+        answer: Result<Outcome, ClientSessionError>,
+    ) -> io::Result<()> {
+        match answer {
+            Err(error) => output.piece(|text, at| {
+                script_results::write_refused(text, at, self.line, self.stage, error)
+            }),
+            Ok(Outcome::Nothing) => {
+                output.piece(|text, at| script_results::write_none(text, at, self.line, self.stage))
+            }
+            Ok(Outcome::One(a)) => self.one(output, a),
+            Ok(Outcome::Two(a, b)) => {
+                self.packet(output, a)?;
+                self.packet(output, b)
+            }
+            Ok(Outcome::Accepted(a, b)) => {
+                self.packet(output, a)?;
+                self.event(output, ClientSessionEvent::ConnectionRequestAccepted)?;
+                self.packet(output, b)
+            }
+            Ok(Outcome::Pinged(a, _)) => self.packet(output, a),
+        }
     }
 }

@@ -1,7 +1,7 @@
--- What the definitions mean: a number that was shown reads as itself; digits written part by part are those of the whole; and the results of
--- document 01's case.
+-- What the definitions mean: a number that was shown reads as itself; and the results of document 01's case. That digits written part by part are
+-- those of the whole stands in HexLaws.antt.
 -- Assumes nothing.
-use mathlib.Core.Path.{◌≡◌, refl, ap}
+use mathlib.Core.Path.{◌≡◌, refl}
 use mathlib.Core.Bool.{false}
 use mathlib.Core.List.{List, [], ◌∷◌, ◌++◌, append_assoc, append-nil}
 use Prim.Native.Nat.{ℕ, zero, suc, ◌+◌, ◌-◌, ◌*◌, ◌/◌, ◌%◌, ◌^◌, ◌<◌, ◌≤◌}
@@ -10,9 +10,9 @@ use native.Mathlib.Omega.{arith}
 use borrow.Author.Tests.{lt-ltb, le-ltb, ltb-true}
 use lib.Dec.{ltb, lit≤}
 use lib.ListN.{length, length-append}
+use Rattle.std.specs.Prelude.{Ok, Some}
 use Rattle.io.specs.Digits.{last_digits, hex_digit_ascii}
 use Rattle.octets.specs.Compare.{ascii}
-use Rattle.messages.specs.declared.stream_metadata.OptionU32.TheVariants.{Some}
 use Rattle.requests.proofs.BoolLaws.{by_cases}
 use Rattle.session.specs.declared.state.ClientState.TheVariants.{Disconnected}
 use Rattle.session.specs.declared.result.ClientSessionResult.TheVariants.{OutboundResponse}
@@ -67,19 +67,13 @@ shown-back n m =
     let r = back (width 20 n) n [] (width-holds 20 n (omega arith)) m in
     rw (some-digits (last_digits 10 (width 20 n) n) (omega arith)) (rw append-nil at r)
 
--- a body's digits go out in parts
-pub hex-parts : (a b : List ℕ) → hex_text (a ++ b) ≡ hex_text a ++ hex_text b
-unfolding hex_text
-hex-parts [] b = refl
-hex-parts (x ∷ a) b = ap (λ (l : List ℕ). hex_digit_ascii (x / 16) ∷ hex_digit_ascii (x % 16) ∷ l) (hex-parts a b)
-
 -- the results of document 01's case: its second line and its third
-pub second_is : outcome_lines 2 Disconnected [] Nothing ≡ ascii "2\t0\tnone\n"
+pub second_is : outcome_lines 2 Disconnected [] (Ok Nothing) ≡ ascii "2\t0\tnone\n"
 unfolding outcome_lines none_line head_text shown width
 second_is = refl
 
 pub third-is : outcome_lines 3 Disconnected (0 ∷ 0 ∷ 0 ∷ 4 ∷ [])
-    (One (OutboundResponse (record { type_id = 3; time = timestamp 7; stream = stream 0; droppable = false; uncompressed = false; start = 0; len = 4 })))
+    (Ok (One (OutboundResponse (record { type_id = 3; time = timestamp 7; stream = stream 0; droppable = false; uncompressed = false; start = 0; len = 4 }))))
     ≡ ascii "3\t0\tout\t3\t7\t0\t0\t0\t00000004\n"
 unfolding outcome_lines result_lines result_line packet_head numbers_text flags_text head_text shown width hex_text
 third-is = refl

@@ -1,6 +1,6 @@
 -- Result lines: document 01, "Program `card`".
 -- Assumes nothing.
-use Rattle.std.specs.Prelude.{ℕ, Bool, cond, List, [], ◌∷◌, ◌++◌}
+use Rattle.std.specs.Prelude.{ℕ, Bool, cond, List, [], ◌∷◌, ◌++◌, Result, Ok, Err}
 use Rattle.octets.specs.Compare.{ascii, part}
 use Rattle.session.specs.Numbers.{refusal_number, stage_number, event_place}
 use Rattle.session.specs.declared.errors.ClientSessionError.{ClientSessionError}
@@ -11,7 +11,7 @@ use Rattle.session.specs.declared.result.Packet.{Packet}
 use Rattle.session.specs.declared.result.ClientSessionResult.{ClientSessionResult}
 use Rattle.session.specs.declared.result.ClientSessionResult.TheVariants.{OutboundResponse, RaisedEvent, UnhandleableMessageReceived}
 use Rattle.session.specs.declared.result.Outcome.{Outcome}
-use Rattle.session.specs.declared.result.Outcome.TheVariants.{Refused, Nothing, One, Two, Accepted, Pinged}
+use Rattle.session.specs.declared.result.Outcome.TheVariants.{Nothing, One, Two, Accepted, Pinged}
 use Rattle.script_results.specs.Decimal.{shown}
 use Rattle.script_results.specs.Hex.{hex_text}
 
@@ -70,10 +70,10 @@ result_lines line stage out [] = []
 result_lines line stage out (r ∷ rs) = result_line line stage out r ++ result_lines line stage out rs
 
 -- the lines of a call
-unfoldable pub outcome_lines : ℕ → ClientState → List ℕ → Outcome → List ℕ
-outcome_lines line stage out (Refused e) = refused_line line stage e
-outcome_lines line stage out Nothing = none_line line stage
-outcome_lines line stage out (One a) = result_lines line stage out (a ∷ [])
-outcome_lines line stage out (Two a b) = result_lines line stage out (OutboundResponse a ∷ OutboundResponse b ∷ [])
-outcome_lines line stage out (Accepted a b) = result_lines line stage out (OutboundResponse a ∷ RaisedEvent ConnectionRequestAccepted ∷ OutboundResponse b ∷ [])
-outcome_lines line stage out (Pinged a t) = result_lines line stage out (OutboundResponse a ∷ [])
+unfoldable pub outcome_lines : ℕ → ClientState → List ℕ → Result Outcome ClientSessionError → List ℕ
+outcome_lines line stage out (Err e) = refused_line line stage e
+outcome_lines line stage out (Ok Nothing) = none_line line stage
+outcome_lines line stage out (Ok (One a)) = result_lines line stage out (a ∷ [])
+outcome_lines line stage out (Ok (Two a b)) = result_lines line stage out (OutboundResponse a ∷ OutboundResponse b ∷ [])
+outcome_lines line stage out (Ok (Accepted a b)) = result_lines line stage out (OutboundResponse a ∷ RaisedEvent ConnectionRequestAccepted ∷ OutboundResponse b ∷ [])
+outcome_lines line stage out (Ok (Pinged a t)) = result_lines line stage out (OutboundResponse a ∷ [])

@@ -1,8 +1,8 @@
 // The lines that tell results, and what is said of lines that can't be read.
 #![tactic(auto)]
 
-mod decimal;
 mod hex;
+mod line;
 mod numbers_of;
 mod output;
 mod reasons;

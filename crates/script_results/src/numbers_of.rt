@@ -28,19 +28,9 @@ pub(crate) fn event_place(event: ClientSessionEvent) -> u8
         ClientSessionEvent::StreamMetadataReceived(_) => 4,
         ClientSessionEvent::VideoDataReceived(_) => 5,
         ClientSessionEvent::AudioDataReceived(_) => 6,
-        ClientSessionEvent::UnhandleableAmf0Command {
-            start: _,
-            len: _,
-            number: _,
-            object: _,
-            args: _,
-        } => 7,
-        ClientSessionEvent::UnknownTransactionResultReceived {
-            number: _,
-            object: _,
-            args: _,
-        } => 8,
-        ClientSessionEvent::UnhandleableOnStatusCode { start: _, len: _ } => 9,
+        ClientSessionEvent::UnhandleableAmf0Command { .. } => 7,
+        ClientSessionEvent::UnknownTransactionResultReceived { .. } => 8,
+        ClientSessionEvent::UnhandleableOnStatusCode(_) => 9,
         ClientSessionEvent::AcknowledgementReceived(_) => 10,
         ClientSessionEvent::PingResponseReceived(_) => 11,
     }

@@ -1,32 +1,21 @@
-// The calls with a body. Its digits are a place in the line s, and are decoded into the lent `body` first.
-ghost use Rattle.std.specs.Prelude.{◌≡◌, length};
+// The calls with a body or with metadata. A body's digits are a place in the line s, and are decoded into the lent `body` first.
+ghost use Rattle.std.specs.Prelude.{◌≡◌, Ok, Err, MatchResult, length};
 ghost use Rattle.session.specs.Calls.{picture, sound, message};
-ghost use Rattle.script_run.specs.Asked.{text_at, body_of, body_in, with_body, Runs};
+ghost use Rattle.script.specs.Metadata.{metadata_line};
+ghost use Rattle.script_run.specs.Asked.{text_at, body_of, with_body, with_metadata, Runs};
 
-use crate::opening::part_of;
-use crate::told::{Came, Ran, apart, told};
+use crate::told::{Ran, apart};
 use messages::{RtmpTimestamp, StreamNumber};
-use script::{Span, Unhexed, Why};
+use octets::Span;
+use script::Why;
 use session::ClientSession;
 
-// How many bytes a body's digits stand for, or why they can't be decoded.
-#[derive(Clone, Copy)]
-pub enum Decoded {
-    Bytes(usize),
-    Unread(Why),
-}
-
-// The bytes come to the start of `body`.
-fn decode(s: &[u8], at: Span, body: &mut [u8]) -> Decoded
-    ensures { body_of (length body.old) (text_at s.now at) ≡ body_in result body.new }
+// The bytes that the digits stand for, at the start of `body`; or why they can't be decoded.
+fn decode<'a>(s: &[u8], at: Span, body: &'a mut [u8]) -> Result<&'a [u8], Why>
+    ensures { MatchResult result (λ b. body_of (length body.old) (text_at s.now at) ≡ Ok b.now) (λ w. body_of (length body.old) (text_at s.now at) ≡ Err w) }
 {
-    let digits = part_of(s, at);
-    let unhexed = script::unhex(digits, body);
-    match unhexed {
-        Unhexed::Done(n) => Decoded::Bytes(n),
-        Unhexed::Bad => Decoded::Unread(Why::Hex),
-        Unhexed::NoSpace => Decoded::Unread(Why::BodyLength),
-    }
+    let n = script::unhex(at.part_of(s), body)?;
+    Ok(octets::part(body, 0, n))
 }
 
 pub(crate) fn handle_message(
@@ -42,14 +31,9 @@ pub(crate) fn handle_message(
 ) -> Ran
     ensures { Runs session out.old (with_body clock (message type_id time stream) (body_of (length body.old) (text_at s.now at))) result out.new }
 {
-    let decoded = decode(s, at, body);
-    match decoded {
-        Decoded::Unread(why) => apart(session, Came::Unread(why)),
-        Decoded::Bytes(n) => {
-            let data = octets::part(body, 0, n);
-            let called = session.handle_message(clock, type_id, time, stream, data, out);
-            told(called)
-        }
+    match decode(s, at, body) {
+        Ok(data) => Ran::from(session.handle_message(clock, type_id, time, stream, data, out)),
+        Err(why) => apart(session, Err(why)),
     }
 }
 
@@ -65,14 +49,9 @@ pub(crate) fn publish_video(
 ) -> Ran
     ensures { Runs session out.old (with_body clock (λ b. picture b time droppable) (body_of (length body.old) (text_at s.now at))) result out.new }
 {
-    let decoded = decode(s, at, body);
-    match decoded {
-        Decoded::Unread(why) => apart(session, Came::Unread(why)),
-        Decoded::Bytes(n) => {
-            let data = octets::part(body, 0, n);
-            let called = session.publish_video_data(clock, data, time, droppable, out);
-            told(called)
-        }
+    match decode(s, at, body) {
+        Ok(data) => Ran::from(session.publish_video_data(clock, data, time, droppable, out)),
+        Err(why) => apart(session, Err(why)),
     }
 }
 
@@ -88,13 +67,24 @@ pub(crate) fn publish_audio(
 ) -> Ran
     ensures { Runs session out.old (with_body clock (λ b. sound b time droppable) (body_of (length body.old) (text_at s.now at))) result out.new }
 {
-    let decoded = decode(s, at, body);
-    match decoded {
-        Decoded::Unread(why) => apart(session, Came::Unread(why)),
-        Decoded::Bytes(n) => {
-            let data = octets::part(body, 0, n);
-            let called = session.publish_audio_data(clock, data, time, droppable, out);
-            told(called)
-        }
+    match decode(s, at, body) {
+        Ok(data) => Ran::from(session.publish_audio_data(clock, data, time, droppable, out)),
+        Err(why) => apart(session, Err(why)),
+    }
+}
+
+// The fields stand after `to`, and the encoder's text in the line.
+pub(crate) fn publish_metadata(
+    session: ClientSession,
+    clock: RtmpTimestamp,
+    s: &[u8],
+    to: usize,
+    out: &mut [u8],
+) -> Ran
+    ensures { Runs session out.old (with_metadata clock s.now (metadata_line s.now to)) result out.new }
+{
+    match script::read_metadata(s, to) {
+        Ok(fields) => Ran::from(session.publish_metadata(clock, fields, s, out)),
+        Err(why) => apart(session, Err(why)),
     }
 }

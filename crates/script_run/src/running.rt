@@ -12,10 +12,13 @@ use session::{ClientSession, ClientSessionConfig};
 pub fn run_line(session: ClientSession, s: &[u8], body: &mut [u8], out: &mut [u8]) -> Ran
     ensures { Runs session out.old (asks (length body.old) s.now (line_of s.now)) result out.new }
 {
-    let line = script::read_line(s);
+    let line = match script::read_line(s) {
+        Ok(line) => line,
+        Err(why) => return apart(session, Err(why)),
+    };
     match line {
-        Line::Empty => apart(session, Came::Passed),
-        Line::Bad(why) => apart(session, Came::Unread(why)),
+        Line::Empty => apart(session, Ok(Came::Passed)),
+        Line::Space(n) => apart(session, Ok(Came::Space(n))),
         Line::Bytes(clock, count) => making::handle_bytes(session, clock, count, out),
         Line::Msg(clock, type_id, time, stream, at) => {
             media::handle_message(session, clock, type_id, time, stream, s, at, body, out)
@@ -34,9 +37,8 @@ pub fn run_line(session: ClientSession, s: &[u8], body: &mut [u8], out: &mut [u8
         Line::Audio(clock, time, droppable, at) => {
             media::publish_audio(session, clock, time, droppable, s, at, body, out)
         }
-        Line::Metadata(clock, to) => making::publish_metadata(session, clock, s, to, out),
+        Line::Metadata(clock, to) => media::publish_metadata(session, clock, s, to, out),
         Line::OpenDefault => opening::open(session, ClientSessionConfig::new()),
         Line::Open(settings) => opening::open(session, opening::config(s, settings)),
-        Line::Space(n) => apart(session, Came::Space(n)),
     }
 }

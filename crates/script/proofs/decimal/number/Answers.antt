@@ -1,46 +1,38 @@
 -- `script::decimal::number` meets its contract: the digits left, from the value so far, have the answer of the whole.
 -- Assumes nothing.
-use mathlib.Core.Path.{sym, ◌∙◌}
-use native.Mathlib.Omega.{arith}
-use borrow.Author.Tests.{lt-ltb, le-ltb}
-use Rattle.script.proofs.DecimalLaws.{dec-none, dec_first, dec-step, dec-end}
+use Rattle.std.proofs.Common.{arith, sym, ◌∙◌}
+use borrow.Author.Tests.{true-eqb, false-eqb}
+use Rattle.script.proofs.DecimalLaws.{dec-none, dec_first, dec-end, no_digit, too_large, digit_more}
 use Rattle.script.proofs.decimal.number.Goals as goal
 
-pub returns-then-s-eq0 : goal.returns-then-s-eq0
-returns-then-s-eq0 c = sym (dec-none _ c.if-s-eq0.true)
+pub returns-then-is_empty : goal.returns-then-is_empty
+returns-then-is_empty c = sym (dec-none c.args.s.now (true-eqb _ _ (sym c.if-is_empty.true ∙ c.is_empty.ensures)))
 
-pub loop-i-init : goal.loop-i-init
-loop-i-init c = (omega arith, omega arith, dec_first _ c.if-s-eq0.false)
+pub loop-b-init : goal.loop-b-init
+loop-b-init c = dec_first c.args.s.now (false-eqb _ _ (sym c.if-is_empty.false ∙ c.is_empty.ensures))
 
-pub returns-then-b-lt48 : goal.returns-then-b-lt48
-returns-then-b-lt48 c =
-    let s = c.args.s.now in
-    sym (c.loop-i.invariant.2 ∙ dec-step c.loop-i.n s c.loop-i.i (omega arith) ∙ rw (lt-ltb _ _ c.if-b-lt48.true))
+pub returns-then-not-is_ascii_digit : goal.returns-then-not-is_ascii_digit
+returns-then-not-is_ascii_digit c = sym (c.loop-b.invariant ∙ no_digit c.loop-b.n c.args.s.now c.loop-b.b-index (omega arith) c.if-not-is_ascii_digit.ensures.cases)
 
-pub returns-then-b-gt57 : goal.returns-then-b-gt57
-returns-then-b-gt57 c =
-    let s = c.args.s.now in
-    sym (c.loop-i.invariant.2 ∙ dec-step c.loop-i.n s c.loop-i.i (omega arith) ∙ rw (le-ltb _ _ c.if-b-lt48.false, lt-ltb _ _ c.if-b-gt57.true))
+pub returns-in_err-checked_mul : goal.returns-in_err-checked_mul
+returns-in_err-checked_mul c =
+    let h = c.if-not-is_ascii_digit.ensures.cases in
+    let k = c.in_err-checked_mul.ensures in
+    c.from_residual.ensures ∙ sym (c.loop-b.invariant ∙ too_large c.loop-b.n c.args.s.now c.loop-b.b-index (omega arith) h.0 h.1 (omega (arith, k)))
 
-pub returns-then-n-gt4294967295 : goal.returns-then-n-gt4294967295
-returns-then-n-gt4294967295 c =
-    let s = c.args.s.now in
-    sym (c.loop-i.invariant.2 ∙ dec-step c.loop-i.n s c.loop-i.i (omega arith)
-    ∙ rw (le-ltb _ _ c.if-b-lt48.false, le-ltb _ _ c.if-b-gt57.false, ← c.wide.ensures, lt-ltb _ _ c.if-n-gt4294967295.true))
+pub returns-in_err-n : goal.returns-in_err-n
+returns-in_err-n c =
+    let h = c.if-not-is_ascii_digit.ensures.cases in
+    let k = c.in_err-n.ensures in
+    let m = c.in_ok-checked_mul.ensures.1 in
+    c.from_residual-in_err-n.ensures ∙ sym (c.loop-b.invariant ∙ too_large c.loop-b.n c.args.s.now c.loop-b.b-index (omega arith) h.0 h.1 (omega (arith, k, m, c.from.ensures)))
 
-pub loop-i-preserved : goal.loop-i-preserved
-loop-i-preserved c =
-    let s = c.args.s.now in (
-      omega arith,
-      omega arith,
-      c.loop-i.invariant.2 ∙ dec-step c.loop-i.n s c.loop-i.i (omega arith)
-          ∙ rw (le-ltb _ _ c.if-b-lt48.false, le-ltb _ _ c.if-b-gt57.false, ← c.wide.ensures, le-ltb _ _ c.if-n-gt4294967295.false),
-    )
+pub loop-b-preserved : goal.loop-b-preserved
+loop-b-preserved c =
+    let h = c.if-not-is_ascii_digit.ensures.cases in
+    let n = c.in_ok-n.ensures in
+    let m = c.in_ok-checked_mul.ensures.1 in
+    c.loop-b.invariant ∙ digit_more c.loop-b.n c.args.s.now c.loop-b.b-index (omega arith) h.0 h.1 c.in_ok-n.n (omega (arith, n.0, n.1)) (omega (arith, n.1, m, c.from.ensures))
 
 pub returns : goal.returns
-returns c =
-    let s = c.args.s.now in
-    sym (c.loop-i.invariant.2 ∙ dec-end c.loop-i.n s c.loop-i.i (omega arith))
-
-pub overflow_add-n : goal.overflow_add-n
-overflow_add-n c = omega (arith, c.shared_slice_known-in-loop-i-1.given c.loop-i.i)
+returns c = sym (c.loop-b.invariant ∙ dec-end c.loop-b.n c.args.s.now c.loop-b.b-index (omega arith))

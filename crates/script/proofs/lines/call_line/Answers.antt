@@ -1,12 +1,15 @@
--- `script::lines::call_line` meets its contract: no verb, or a verb and its line.
+-- `script::lines::call_line` meets its contract: no field, or the verb's line.
 -- Assumes nothing.
-use mathlib.Core.Path.{sym, ◌∙◌}
-use native.Mathlib.Omega.{arith}
-use Rattle.script.proofs.LineLaws.{no_verb, verb-is}
+use Rattle.std.proofs.Common.{rules, ◌≡◌, ◌+◌, ◌-◌, length, Err, ◌∙◌, arith}
+use Rattle.script.proofs.ReadLaws.{no_verb, verb_is}
 use Rattle.script.proofs.lines.call_line.Goals as goal
 
-pub returns-then-s-to : goal.returns-then-s-to
-returns-then-s-to c = sym (no_verb c.args.s.now c.args.to (omega arith) _)
+pub returns-in_err-word : goal.returns-in_err-word
+returns-in_err-word c =
+    let e : c.from_residual.result ≡ Err c.in_err-word.field-0.0 = search rules in
+    e ∙ no_verb _ _ c.in_err-word.ensures.word
 
 pub returns : goal.returns
-returns c = c.verb_line.ensures ∙ rw c.verb_of-verb.ensures (sym (verb-is c.args.s.now c.args.to c.find-end.result (omega arith) c.find-end.ensures.value (omega arith) (omega arith) _))
+returns c =
+    let n : c.word.new.self.next - 1 ≡ c.args.fields.now.next + length c.in_ok-word.field-0.now = omega (arith, c.in_ok-word.ensures.next) in
+    c.verb_line.ensures ∙ rw (n, c.verb_of-verb.ensures, c.word.ensures.rest) (verb_is c.args.clock _ _ c.in_ok-word.ensures.word)

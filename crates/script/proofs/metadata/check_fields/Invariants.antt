@@ -1,12 +1,10 @@
-use Prim.Native.Nat.{◌-◌}
-use mathlib.Core.Path.{◌≡◌}
-use lib.ListN.{length}
-use Rattle.script.specs.Fields.{fields_after}
+use Rattle.std.proofs.Common.{◌≡◌, ◌+◌, ◌-◌, length}
+use Rattle.script.specs.Fields.{fields_after, left}
 use Rattle.script.specs.Metadata.{check_fields}
 use Rattle.script.proofs.metadata.check_fields.Given as goal
 
-abbrev pub invariant-loop-at : goal.invariant-loop-at
-invariant-loop-at l = check_fields (fields_after l.s l.to) ≡ check_fields (fields_after l.s l.at)
+abbrev pub invariant-loop-word : goal.invariant-loop-word
+invariant-loop-word l = (l.fields.line.now ≡ l.s) × (check_fields (fields_after l.s l.to) ≡ check_fields (left l.fields))
 
-abbrev pub decreases-loop-at : goal.decreases-loop-at
-decreases-loop-at l = length l.s - l.at
+abbrev pub decreases-loop-word : goal.decreases-loop-word
+decreases-loop-word l = length l.s + 1 - l.fields.next

@@ -1,23 +1,15 @@
 -- `script::named::rate_of` meets its contract: not 8 bytes, not digits, or a pattern.
 -- Assumes nothing.
-use Prim.Native.Nat.{ℕ}
-use mathlib.Core.Path.{◌≡◌, sym, ◌∙◌}
-use native.Mathlib.Omega.{arith}
-use borrow.Author.Rules.{rules}
-use Rattle.script.proofs.MetadataLaws.{rate-length, rate_refused, rate_short, rate_read}
+use Rattle.std.proofs.Common.{rules, sym, ap, ◌∙◌, arith}
+use Rattle.std.specs.Result.{result_ok}
+use Rattle.script.proofs.MetadataLaws.{rate_length, rate_refused, rate_read}
 use Rattle.script.proofs.named.rate_of.Goals as goal
 
 pub returns-then-d-ne8 : goal.returns-then-d-ne8
-returns-then-d-ne8 c = sym (rate-length c.args.d.now c.if-d-ne8.true)
+returns-then-d-ne8 c = sym (rate_length c.args.d.now c.if-d-ne8.true)
 
-pub returns-in-Bad : goal.returns-in-Bad
-returns-in-Bad c = rate_refused _ _ _ _ c.unhex.ensures.value c.unhex.ensures.out_after (omega arith) (search rules) (λ e. let z : ◌≡◌ {A = ℕ} 0 1 = cc in omega arith)
+pub returns-in_err-ok : goal.returns-in_err-ok
+returns-in_err-ok c = c.from_residual.ensures ∙ sym (rate_refused c.args.d.now _ (c.ok.ensures.value ∙ ap result_ok c.unhex.ensures.value) (omega arith) (search rules) c.in_err-ok.was)
 
-pub returns-in-NoSpace : goal.returns-in-NoSpace
-returns-in-NoSpace c = rate_refused _ _ _ _ c.unhex.ensures.value c.unhex.ensures.out_after (omega arith) (search rules) (λ e. let z : ◌≡◌ {A = ℕ} 0 1 = cc in omega arith)
-
-pub returns-in-Short : goal.returns-in-Short
-returns-in-Short c = rate_short _ _ _ _ c.unhex.ensures.value c.unhex.ensures.out_after (omega arith) (search rules) (sym c.read_be32.ensures ∙ c.in-Short.is)
-
-pub returns-in-Is : goal.returns-in-Is
-returns-in-Is c = rate_read _ _ _ _ c.unhex.ensures.value c.unhex.ensures.out_after (omega arith) (search rules) _ _ _ _ c.in-Done.is (sym c.read_be32.ensures ∙ c.in-Is.is) c.widen_bits.ensures c.narrow.ensures
+pub returns : goal.returns
+returns c = sym (rate_read c.args.d.now _ (c.ok.ensures.value ∙ ap result_ok c.unhex.ensures.value) (omega arith) (search rules) c.in_ok-ok.was _ c.unhex.ensures.out_after ∙ rw (← c.from_be_bytes.ensures, ← c.widen_bits-bits.ensures, ← c.narrow.ensures))

@@ -1,5 +1,6 @@
 -- `script_results::hex::write_hex` meets its contract: refused where the digits do not fit, else put.
 -- Assumes nothing.
+use borrow.Author.Rules.{rules}
 use native.Mathlib.Omega.{arith}
 use Rattle.script_results.proofs.HexLaws.{text-length}
 use Rattle.script_results.proofs.OutputLaws.{fitted-at, short-at}
@@ -12,4 +13,4 @@ pub returns-then-out-at-2 : goal.returns-then-out-at-2
 returns-then-out-at-2 c = short-at (rw text-length (omega arith))
 
 pub returns : goal.returns
-returns c = fitted-at c.put_hex.ensures (rw text-length (omega arith))
+returns c = fitted-at c.put_hex.new.w c.starting_at-w.ensures c.position.ensures c.put_hex.ensures (search rules) (rw text-length (omega arith))

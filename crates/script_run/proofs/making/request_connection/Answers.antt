@@ -5,4 +5,4 @@ use Rattle.script_run.proofs.RunLaws.{told_text}
 use Rattle.script_run.proofs.making.request_connection.Goals as goal
 
 pub returns : goal.returns
-returns c = told_text connect c.part_of-app.ensures c.request_connection-called.ensures c.told.ensures
+returns c = told_text connect c.part_of-app.ensures c.request_connection.ensures c.from.ensures

@@ -5,4 +5,4 @@ use Rattle.script_run.proofs.RunLaws.{told_text}
 use Rattle.script_run.proofs.making.request_playback.Goals as goal
 
 pub returns : goal.returns
-returns c = told_text play c.part_of-key.ensures c.request_playback-called.ensures c.told.ensures
+returns c = told_text play c.part_of-key.ensures c.request_playback.ensures c.from.ensures

@@ -5,4 +5,4 @@ use Rattle.script_run.proofs.RunLaws.{told_text}
 use Rattle.script_run.proofs.making.request_publishing.Goals as goal
 
 pub returns : goal.returns
-returns c = told_text (λ t. publish t c.args.kind) c.part_of-key.ensures c.request_publishing-called.ensures c.told.ensures
+returns c = told_text (λ t. publish t c.args.kind) c.part_of-key.ensures c.request_publishing.ensures c.from.ensures

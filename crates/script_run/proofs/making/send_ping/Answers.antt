@@ -4,4 +4,4 @@ use Rattle.script_run.proofs.RunLaws.{told_does}
 use Rattle.script_run.proofs.making.send_ping.Goals as goal
 
 pub returns : goal.returns
-returns c = told_does c.send_ping_request-called.ensures c.told.ensures
+returns c = told_does c.send_ping_request.ensures c.from.ensures

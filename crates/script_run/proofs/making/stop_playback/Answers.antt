@@ -4,4 +4,4 @@ use Rattle.script_run.proofs.RunLaws.{told_does}
 use Rattle.script_run.proofs.making.stop_playback.Goals as goal
 
 pub returns : goal.returns
-returns c = told_does c.stop_playback-called.ensures c.told.ensures
+returns c = told_does c.stop_playback.ensures c.from.ensures

@@ -4,4 +4,4 @@ use Rattle.script_run.proofs.RunLaws.{told_does}
 use Rattle.script_run.proofs.making.stop_publishing.Goals as goal
 
 pub returns : goal.returns
-returns c = told_does c.stop_publishing-called.ensures c.told.ensures
+returns c = told_does c.stop_publishing.ensures c.from.ensures

@@ -3,10 +3,8 @@
 use Rattle.script_run.proofs.RunLaws.{no_body, told-body}
 use Rattle.script_run.proofs.media.publish_video.Goals as goal
 
-pub returns-in-Unread : goal.returns-in-Unread
-returns-in-Unread c =
-    no_body _ _ _ c.decode-decoded.ensures c.in-Unread.is c.apart.ensures
+pub returns-in-Ok : goal.returns-in-Ok
+returns-in-Ok c = told-body _ c.in-Ok.ensures c.publish_video_data.ensures c.from.ensures
 
-pub returns-in-Bytes : goal.returns-in-Bytes
-returns-in-Bytes c =
-    told-body _ _ c.decode-decoded.ensures c.in-Bytes.is c.part-data.ensures c.publish_video_data-called.ensures c.told.ensures
+pub returns-in-Err : goal.returns-in-Err
+returns-in-Err c = no_body _ _ c.in-Err.ensures c.apart.ensures
