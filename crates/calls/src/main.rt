@@ -3,164 +3,89 @@
 #![tactic(auto)]
 
 mod calling;
-mod hex;
 mod making;
 mod showing;
 
-ghost use Rattle.std.specs.Prelude.{◌≤◌, length};
-
+use case_lines::{Given, Hex, Output};
+use messages::RtmpTimestamp;
 use session::ClientSession;
-use std::io::{Read, Stdin, Stdout};
+use showing::{Settings, Shown};
+use std::io;
+use std::io::Write;
 
-// The end of the stretch that starts at `from`: the next such byte, or the end.
-fn end(s: &[u8], from: usize, mark: u8) -> usize
-    requires { from ≤ length s.now }
-    ensures { (from ≤ result) × (result ≤ length s.now) }
-{
-    let mut i = from;
-    while i < s.len() {
-        if s[i] == mark {
-            return i;
-        }
-        i += 1;
-    }
-    i
+// Opening with the settings of the record.
+fn open<W: Write>(to: &mut W, session: &mut ClientSession) -> io::Result<()> {
+    let called = ClientSession::new(session.config);
+    *session = called.session;
+    write!(to, "{}", Shown(&called.outcome))
 }
 
-fn fill(out: &mut [u8]) {
-    let mut i = 0;
-    while i < out.len() {
-        out[i] = 0xff;
-        i += 1;
-    }
-}
-
-// A call with that output lent: what it answered, and the output.
-fn called(
-    to: Stdout,
+// A call: what it answered, and the output that was lent. Each starts with the clock and the output's length.
+fn call<W: Write>(
+    to: &mut W,
     letter: u8,
-    session: ClientSession,
-    given: &[u8],
-    out: &mut [u8],
-) -> ClientSession {
-    fill(out);
-    let c = calling::call(letter, session, given, out);
-    let answer = c.outcome;
-    showing::outcome(to, answer);
-    hex::word(to, b"\t");
-    hex::digits(to, out);
-    c.session
-}
-
-fn opened(to: Stdout, session: ClientSession) -> ClientSession {
-    let c = calling::open(session);
-    let answer = c.outcome;
-    showing::outcome(to, answer);
-    c.session
-}
-
-// What a field in capitals or a view does.
-fn act(
-    to: Stdout,
-    letter: u8,
-    session: ClientSession,
-    given: &[u8],
-    out: &mut [u8],
-) -> ClientSession {
-    if letter == b'v' {
-        showing::record(to, session);
-        return session;
-    }
-    if letter == b'w' {
-        showing::settings(to, session);
-        return session;
-    }
-    if letter == b'O' {
-        return opened(to, session);
-    }
-    let n = hex::short(given, 4) as usize;
-    if out.len() < n {
-        return session;
-    }
-    called(to, letter, session, given, &mut out[0..n])
-}
-
-fn makes(letter: u8) -> bool {
-    match letter {
-        b'f' | b'u' | b's' | b'g' | b'n' | b'p' | b'l' => true,
-        _ => false,
-    }
+    session: &mut ClientSession,
+    mut given: Given<'_>,
+    space: &mut [u8],
+) -> io::Result<()> {
+    let clock = RtmpTimestamp(given.number().unwrap_or(0));
+    let len = usize::from(given.short().unwrap_or(0));
+    let Some(out) = space.get_mut(..len) else {
+        return Ok(());
+    };
+    out.fill(0xff);
+    let called = calling::call(letter, *session, clock, given, out);
+    *session = called.session;
+    write!(to, "{}\t{}", Shown(&called.outcome), Hex(out))
 }
 
 // One field: the line's name, or a letter and hexadecimal.
-fn field(
-    to: Stdout,
+fn field<W: Write>(
+    to: &mut W,
     s: &[u8],
-    session: ClientSession,
-    given: &mut [u8],
+    session: &mut ClientSession,
+    space: &mut [u8],
     out: &mut [u8],
-) -> ClientSession {
-    if s.len() < 1 {
-        return session;
+) -> io::Result<()> {
+    let Some((letter, text)) = s.split_first() else {
+        return Ok(());
+    };
+    if *letter == b'=' {
+        return to.write_all(text);
     }
-    let letter = s[0];
-    if letter == b'=' {
-        hex::word(to, &s[1..]);
-        return session;
+    let given = Given::new(case_lines::decode(text, space));
+    if making::set(*letter, session, given) {
+        return Ok(());
     }
-    let n = hex::decode(&s[1..], given);
-    if makes(letter) {
-        return making::with(letter, session, &given[0..n]);
+    write!(to, "\t")?;
+    match letter {
+        b'v' => write!(to, "{}", Shown(&*session)),
+        b'w' => write!(to, "{}", Settings(&*session)),
+        b'O' => open(to, session),
+        _ => call(to, *letter, session, given, out),
     }
-    hex::word(to, b"\t");
-    act(to, letter, session, &given[0..n], out)
 }
 
-fn line(to: Stdout, s: &[u8], given: &mut [u8], out: &mut [u8]) {
+fn line<W: Write>(to: &mut W, s: &[u8], space: &mut [u8], out: &mut [u8]) -> io::Result<()> {
     let mut session = making::fresh();
-    let mut from = 0;
-    while from < s.len() {
-        let start = from;
-        let e = end(s, start, b'\t');
-        from = e + 1;
-        session = field(to, &s[start..e], session, given, out);
+    for part in s.split(|b| *b == b'\t') {
+        field(to, part, &mut session, space, out)?;
     }
-    hex::word(to, b"\n");
+    writeln!(to)
 }
 
-fn run(to: Stdout, text: &[u8], given: &mut [u8], out: &mut [u8]) {
-    let mut from = 0;
-    while from < text.len() {
-        let e = end(text, from, b'\n');
-        line(to, &text[from..e], given, out);
-        from = e + 1;
+fn run<W: Write>(to: &mut W, text: &[u8]) -> io::Result<()> {
+    let mut space = [0u8; 131072];
+    let mut out = [0u8; 2048];
+    for s in text.split_inclusive(|b| *b == b'\n') {
+        line(to, s.strip_suffix(b"\n").unwrap_or(s), &mut space, &mut out)?;
     }
+    to.flush()
 }
 
-// Reads until space is full, the input ends or a read fails: how many bytes stand at its start.
-fn read_full(from: Stdin, space: &mut [u8]) -> usize
-    ensures { result ≤ length space.new }
-{
-    let mut input = from;
-    let mut done = 0;
-    while done < space.len() {
-        let n = input.read(&mut space[done..]).unwrap_or(0);
-        if n == 0 {
-            return done;
-        }
-        done += n;
-    }
-    done
-}
-
-fn all(from: Stdin, to: Stdout, space: &mut [u8], given: &mut [u8], out: &mut [u8]) {
-    let n = read_full(from, space);
-    run(to, &space[0..n], given, out);
-}
-
+// A write that fails ends the run: nobody is there to be told.
 fn main(rt: HostRuntime) {
     let mut space = [0u8; 2097152];
-    let mut given = [0u8; 131072];
-    let mut out = [0u8; 2048];
-    all(rt.stdin(), rt.stdout(), &mut space, &mut given, &mut out);
+    let text = case_lines::read_full(&mut rt.stdin(), &mut space);
+    let _ = run(&mut Output::new(rt.stdout()), text);
 }

@@ -1,32 +1,28 @@
 // The numbers of a double's pattern.
-use crate::hex;
-use octets::{Be32, Be64};
-use std::io::Stdout;
+use case_lines::{Digits, Given, OrWord};
+use std::io;
+use std::io::Write;
 
 // Held in 32 bits; that as a Number again; the nearest single's pattern; the Number of that single, by its pattern and by its value.
-pub fn case(to: Stdout, given: &[u8]) {
-    match octets::read_be64(given, 0) {
-        Be64::Is(bits) => {
-            let held = numbers::hold(bits);
-            hex::decimal(to, held as u64);
-            hex::tab(to);
-            hex::hex(to, numbers::number_of(held), 16);
-            hex::tab(to);
-            let single = numbers::narrow_bits(bits);
-            hex::hex(to, single as u64, 8);
-            hex::tab(to);
-            hex::hex(to, numbers::widen_bits(single), 16);
-            hex::tab(to);
-            hex::hex(to, numbers::widen(numbers::narrow(bits)), 16);
-        }
-        Be64::Short => hex::word(to, b"short"),
-    }
+pub fn case<W: Write>(to: &mut W, given: &[u8]) -> io::Result<()> {
+    let Some(bits) = Given::new(given).long() else {
+        return write!(to, "short");
+    };
+    let held = numbers::hold(bits);
+    let again = numbers::number_of(held);
+    let single = numbers::narrow_bits(bits);
+    let by_pattern = numbers::widen_bits(single);
+    let by_value = numbers::widen(numbers::narrow(bits));
+    write!(
+        to,
+        "{held}\t{again:016x}\t{single:08x}\t{by_pattern:016x}\t{by_value:016x}"
+    )
 }
 
 // The Number of a single, by its pattern.
-pub fn single(to: Stdout, given: &[u8]) {
-    match octets::read_be32(given, 0) {
-        Be32::Is(p) => hex::hex(to, numbers::widen_bits(p), 16),
-        Be32::Short => hex::word(to, b"short"),
-    }
+pub fn single<W: Write>(to: &mut W, given: &[u8]) -> io::Result<()> {
+    let number = Given::new(given)
+        .number()
+        .map(|p| Digits(numbers::widen_bits(p), 16));
+    write!(to, "{}", OrWord(number, "short"))
 }

@@ -1,245 +1,152 @@
 // Message bodies: what a body of a type says.
-use crate::hex;
-use amf0::TextAt;
+use crate::shown::{Shown, rate};
+use amf0::Malformed;
+use case_lines::OrWord;
 use messages::{
-    Argument, Command, CommandName, DataMessage, OnStatus, OptionBool, OptionF32, OptionU32,
-    PeerBandwidthLimitType, RtmpMessage, StreamMetadata, UserControlEvent,
+    Argument, Command, CommandName, DataMessage, OnStatus, PeerBandwidthLimitType, RtmpMessage,
+    StreamMetadata, UserControlEvent,
 };
-use std::io::Stdout;
+use std::io::Write;
+use std::{fmt, io};
 
-// A word and a number.
-fn say(to: Stdout, word: &[u8], n: u32) {
-    hex::word(to, word);
-    hex::word(to, b" ");
-    hex::decimal(to, n as u64);
-}
-
-fn place(to: Stdout, n: usize) {
-    hex::word(to, b" ");
-    hex::decimal(to, n as u64);
-}
-
-fn limit(to: Stdout, l: PeerBandwidthLimitType) {
-    match l {
-        PeerBandwidthLimitType::Hard => hex::word(to, b" hard"),
-        PeerBandwidthLimitType::Soft => hex::word(to, b" soft"),
-        PeerBandwidthLimitType::Dynamic => hex::word(to, b" dynamic"),
+impl fmt::Display for Shown<PeerBandwidthLimitType> {
+    fn fmt<W: fmt::Write>(&self, f: &mut fmt::Formatter<W>) -> fmt::Result {
+        f.write_str(match self.0 {
+            PeerBandwidthLimitType::Hard => "hard",
+            PeerBandwidthLimitType::Soft => "soft",
+            PeerBandwidthLimitType::Dynamic => "dynamic",
+        })
     }
 }
 
-fn event(to: Stdout, e: UserControlEvent) {
-    match e {
-        UserControlEvent::StreamBegin(x) => say(to, b"begin", x.0),
-        UserControlEvent::StreamEof(x) => say(to, b"eof", x.0),
-        UserControlEvent::StreamDry(x) => say(to, b"dry", x.0),
-        UserControlEvent::SetBufferLength { stream, length } => {
-            say(to, b"buffer", stream.0);
-            say(to, b"", length)
+impl fmt::Display for Shown<UserControlEvent> {
+    fn fmt<W: fmt::Write>(&self, f: &mut fmt::Formatter<W>) -> fmt::Result {
+        match self.0 {
+            UserControlEvent::StreamBegin(x) => write!(f, "begin {}", x.0),
+            UserControlEvent::StreamEof(x) => write!(f, "eof {}", x.0),
+            UserControlEvent::StreamDry(x) => write!(f, "dry {}", x.0),
+            UserControlEvent::SetBufferLength { stream, length } => {
+                write!(f, "buffer {} {length}", stream.0)
+            }
+            UserControlEvent::StreamIsRecorded(x) => write!(f, "recorded {}", x.0),
+            UserControlEvent::PingRequest(t) => write!(f, "ping {}", t.0),
+            UserControlEvent::PingResponse(t) => write!(f, "pong {}", t.0),
         }
-        UserControlEvent::StreamIsRecorded(x) => say(to, b"recorded", x.0),
-        UserControlEvent::PingRequest(t) => say(to, b"ping", t.0),
-        UserControlEvent::PingResponse(t) => say(to, b"pong", t.0),
     }
 }
 
-fn name(to: Stdout, n: CommandName) {
-    match n {
-        CommandName::Result => hex::word(to, b"command result"),
-        CommandName::Error => hex::word(to, b"command error"),
-        CommandName::OnStatus => hex::word(to, b"command onstatus"),
-        CommandName::Other => hex::word(to, b"command other"),
+impl fmt::Display for Shown<CommandName> {
+    fn fmt<W: fmt::Write>(&self, f: &mut fmt::Formatter<W>) -> fmt::Result {
+        f.write_str(match self.0 {
+            CommandName::Result => "result",
+            CommandName::Error => "error",
+            CommandName::OnStatus => "onstatus",
+            CommandName::Other => "other",
+        })
     }
 }
 
-fn first(to: Stdout, a: Argument) {
-    match a {
-        Argument::Absent => hex::word(to, b" absent"),
-        Argument::Number(bits) => {
-            hex::word(to, b" number ");
-            hex::hex(to, bits, 16)
+impl fmt::Display for Shown<Argument> {
+    fn fmt<W: fmt::Write>(&self, f: &mut fmt::Formatter<W>) -> fmt::Result {
+        match self.0 {
+            Argument::Number(bits) => write!(f, "number {bits:016x}"),
+            Argument::Object => f.write_str("object"),
+            Argument::Other => f.write_str("other"),
         }
-        Argument::Object => hex::word(to, b" object"),
-        Argument::Other => hex::word(to, b" other"),
     }
 }
 
-fn code(to: Stdout, c: OnStatus) {
-    match c {
-        OnStatus::PlayStart => hex::word(to, b" play"),
-        OnStatus::PublishStart => hex::word(to, b" publish"),
-        OnStatus::Other { start, len } => {
-            hex::word(to, b" other");
-            place(to, start);
-            place(to, len)
+impl fmt::Display for Shown<OnStatus> {
+    fn fmt<W: fmt::Write>(&self, f: &mut fmt::Formatter<W>) -> fmt::Result {
+        match self.0 {
+            OnStatus::PlayStart => f.write_str("play"),
+            OnStatus::PublishStart => f.write_str("publish"),
+            OnStatus::Other(place) => write!(f, "other {}", Shown(place)),
         }
-        OnStatus::Invalid => hex::word(to, b" invalid"),
     }
 }
 
-// The code, where the command is an onStatus with an object as its first argument.
-fn notice(to: Stdout, n: CommandName, a: Argument, at: usize, body: &[u8]) {
-    let CommandName::OnStatus = n else {
-        return;
-    };
-    let Argument::Object = a else {
-        return;
-    };
-    code(to, messages::on_status_code(body, at))
+// The code follows where the command is an onStatus with an object as its first argument.
+fn command<W: Write>(to: &mut W, c: Command, body: &[u8]) -> io::Result<()> {
+    let (name, place) = (Shown(c.name), Shown(c.name_at));
+    let first = OrWord(c.first.map(Shown), "absent");
+    let (number, object, args) = (c.number, c.object, c.args);
+    write!(
+        to,
+        "command {name} {place} {number:016x} {object} {args} {first}"
+    )?;
+    if let (CommandName::OnStatus, Some(Argument::Object)) = (c.name, c.first) {
+        let code = messages::on_status_code(body, args);
+        write!(to, " {}", OrWord(code.map(Shown), "invalid"))?;
+    }
+    Ok(())
 }
 
-fn command(to: Stdout, c: Command, body: &[u8]) {
-    let n = c.name;
-    let a = c.first;
-    name(to, n);
-    place(to, c.start);
-    place(to, c.len);
-    hex::word(to, b" ");
-    hex::hex(to, c.number, 16);
-    place(to, c.object);
-    place(to, c.args);
-    first(to, a);
-    notice(to, n, a, c.args, body);
-}
-
-fn whole(to: Stdout, v: OptionU32) {
-    match v {
-        OptionU32::Some(n) => say(to, b"", n),
-        OptionU32::None => hex::word(to, b" -"),
+fn fields<W: Write>(to: &mut W, m: StreamMetadata) -> io::Result<()> {
+    write!(
+        to,
+        " {} {} {} {} {} {} {} {} {} {}",
+        OrWord(m.video_width, "-"),
+        OrWord(m.video_height, "-"),
+        OrWord(m.video_codec_id, "-"),
+        OrWord(m.video_frame_rate.map(rate), "-"),
+        OrWord(m.video_bitrate_kbps, "-"),
+        OrWord(m.audio_codec_id, "-"),
+        OrWord(m.audio_bitrate_kbps, "-"),
+        OrWord(m.audio_sample_rate, "-"),
+        OrWord(m.audio_channels, "-"),
+        OrWord(m.audio_is_stereo.map(u8::from), "-")
+    )?;
+    match m.encoder {
+        Some(place) => write!(to, " {},{}", place.start, place.len),
+        None => write!(to, " -"),
     }
 }
 
-fn rate(to: Stdout, v: OptionF32) {
-    match v {
-        OptionF32::Some(x) => {
-            hex::word(to, b" ");
-            hex::hex(to, numbers::narrow_bits(numbers::widen(x)) as u64, 8)
-        }
-        OptionF32::None => hex::word(to, b" -"),
-    }
-}
-
-fn flag(to: Stdout, v: OptionBool) {
-    match v {
-        OptionBool::Some(b) => {
-            hex::word(to, b" ");
-            hex::flag(to, b)
-        }
-        OptionBool::None => hex::word(to, b" -"),
-    }
-}
-
-fn text(to: Stdout, v: TextAt) {
-    match v {
-        TextAt::At { start, len } => {
-            place(to, start);
-            hex::word(to, b",");
-            hex::decimal(to, len as u64)
-        }
-        TextAt::Absent => hex::word(to, b" -"),
-    }
-}
-
-fn fields(to: Stdout, m: StreamMetadata) {
-    let width = m.video_width;
-    whole(to, width);
-    let height = m.video_height;
-    whole(to, height);
-    let video_codec = m.video_codec_id;
-    whole(to, video_codec);
-    let frames = m.video_frame_rate;
-    rate(to, frames);
-    let video_rate = m.video_bitrate_kbps;
-    whole(to, video_rate);
-    let audio_codec = m.audio_codec_id;
-    whole(to, audio_codec);
-    let audio_rate = m.audio_bitrate_kbps;
-    whole(to, audio_rate);
-    let samples = m.audio_sample_rate;
-    whole(to, samples);
-    let channels = m.audio_channels;
-    whole(to, channels);
-    let stereo = m.audio_is_stereo;
-    flag(to, stereo);
-    let encoder = m.encoder;
-    text(to, encoder);
-}
-
-fn data(to: Stdout, d: DataMessage, body: &[u8]) {
-    match d {
-        DataMessage::OnMetaData(at) => {
-            hex::word(to, b"metadata");
-            place(to, at);
+fn show<W: Write>(to: &mut W, m: RtmpMessage, body: &[u8]) -> io::Result<()> {
+    match m {
+        RtmpMessage::Unknown => write!(to, "unknown"),
+        RtmpMessage::Abort(n) => write!(to, "abort {n}"),
+        RtmpMessage::Acknowledgement(n) => write!(to, "ack {n}"),
+        RtmpMessage::Amf0Command(c) => command(to, c, body),
+        RtmpMessage::Amf0Data(DataMessage::OnMetaData(at)) => {
+            write!(to, "metadata {at}")?;
             fields(to, messages::read_metadata(body, at))
         }
-        DataMessage::Other => hex::word(to, b"data"),
-    }
-}
-
-fn show(to: Stdout, m: RtmpMessage, body: &[u8]) {
-    match m {
-        RtmpMessage::Unknown => hex::word(to, b"unknown"),
-        RtmpMessage::Abort(n) => say(to, b"abort", n),
-        RtmpMessage::Acknowledgement(n) => say(to, b"ack", n),
-        RtmpMessage::Amf0Command(c) => command(to, c, body),
-        RtmpMessage::Amf0Data(d) => data(to, d, body),
-        RtmpMessage::AudioData => hex::word(to, b"audio"),
-        RtmpMessage::SetChunkSize(n) => say(to, b"chunk", n),
-        RtmpMessage::SetPeerBandwidth { size, limit: l } => {
-            say(to, b"bandwidth", size);
-            limit(to, l)
+        RtmpMessage::Amf0Data(DataMessage::Other) => write!(to, "data"),
+        RtmpMessage::AudioData => write!(to, "audio"),
+        RtmpMessage::SetChunkSize(n) => write!(to, "chunk {n}"),
+        RtmpMessage::SetPeerBandwidth { size, limit } => {
+            write!(to, "bandwidth {size} {}", Shown(limit))
         }
-        RtmpMessage::UserControl(e) => event(to, e),
-        RtmpMessage::VideoData => hex::word(to, b"video"),
-        RtmpMessage::WindowAcknowledgement(n) => say(to, b"window", n),
-        RtmpMessage::Malformed => hex::word(to, b"malformed"),
+        RtmpMessage::UserControl(e) => write!(to, "{}", Shown(e)),
+        RtmpMessage::VideoData => write!(to, "video"),
+        RtmpMessage::WindowAcknowledgement(n) => write!(to, "window {n}"),
     }
 }
 
 // The first byte is the message's type; the body follows.
-pub fn case(to: Stdout, given: &[u8]) {
-    if given.len() < 1 {
-        return;
-    }
-    let body = &given[1..];
-    show(to, messages::to_rtmp_message(given[0], body), body);
-}
-
-// 1 where a body of type 4 is an event with its values.
-fn is_event(m: RtmpMessage) -> u64 {
-    match m {
-        RtmpMessage::UserControl(_) => 1,
-        _ => 0,
-    }
-}
-
-fn sum(a: u64, b: u64) -> u64 {
-    std::num::wrapping_add_u64(a, b)
-}
-
-fn with_event(space: &mut [u8], e: u16) {
-    if 2 <= space.len() {
-        octets::put_be16(space, 0, e);
+pub fn case<W: Write>(to: &mut W, given: &[u8]) -> io::Result<()> {
+    match given {
+        [kind, body @ ..] => match messages::to_rtmp_message(*kind, body) {
+            Ok(m) => show(to, m, body),
+            Err(Malformed) => write!(to, "malformed"),
+        },
+        [] => Ok(()),
     }
 }
 
 // All 65,536 events of type 4, with as many more bytes as are given: how many are well formed.
-pub fn events(to: Stdout, given: &[u8], space: &mut [u8]) {
-    if space.len() < 2 {
-        return;
+pub fn events<W: Write>(to: &mut W, given: &[u8], space: &mut [u8]) -> io::Result<()> {
+    let Some(body) = space.get_mut(..given.len().saturating_add(2)) else {
+        return Ok(());
+    };
+    let mut count = 0u64;
+    for e in 0..=u16::MAX {
+        body[..2].copy_from_slice(&e.to_be_bytes());
+        if let Ok(RtmpMessage::UserControl(_)) = messages::to_rtmp_message(4, body) {
+            count += 1;
+        }
     }
-    let n = given.len();
-    if space.len() - 2 < n {
-        return;
-    }
-    let e = n + 2;
-    let mut count: u64 = 0;
-    let mut k: u16 = 0;
-    while k < 65535 {
-        with_event(space, k);
-        count = sum(count, is_event(messages::to_rtmp_message(4, &space[0..e])));
-        k += 1;
-    }
-    with_event(space, k);
-    count = sum(count, is_event(messages::to_rtmp_message(4, &space[0..e])));
-    hex::decimal(to, count);
+    write!(to, "{count}")
 }

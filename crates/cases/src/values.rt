@@ -1,79 +1,55 @@
 // AMF0: what stands at the start of a body.
-use crate::hex;
-use amf0::{Counted, Found, Kind, Next, TextAt};
-use std::io::Stdout;
+use crate::shown::Shown;
+use amf0::Kind;
+use case_lines::{Hex, OrWord};
+use octets::Span;
+use std::io::Write;
+use std::{fmt, io};
 
-fn counted(to: Stdout, r: Counted) {
-    match r {
-        Counted::Is(n) => hex::decimal(to, n as u64),
-        Counted::Malformed => hex::word(to, b"bad"),
-    }
-}
-
-fn next(to: Stdout, r: Next) {
-    match r {
-        Next::At(n) => hex::decimal(to, n as u64),
-        Next::Malformed => hex::word(to, b"bad"),
-    }
-}
-
-// A word, and the start and the length of a stretch.
-fn stretch(to: Stdout, word: &[u8], start: usize, len: usize) {
-    hex::word(to, word);
-    hex::decimal(to, start as u64);
-    hex::word(to, b" ");
-    hex::decimal(to, len as u64);
-}
-
-fn kind(to: Stdout, r: Kind) {
-    match r {
-        Kind::Number(bits) => {
-            hex::word(to, b"number ");
-            hex::hex(to, bits, 16)
+impl fmt::Display for Shown<Kind> {
+    fn fmt<W: fmt::Write>(&self, f: &mut fmt::Formatter<W>) -> fmt::Result {
+        match self.0 {
+            Kind::Number(bits) => write!(f, "number {bits:016x}"),
+            Kind::Boolean(b) => write!(f, "boolean {}", u8::from(b)),
+            Kind::Text(place) => write!(f, "text {}", Shown(place)),
+            Kind::Object => f.write_str("object"),
+            Kind::Null => f.write_str("null"),
+            Kind::Undefined => f.write_str("undefined"),
+            Kind::Array => f.write_str("array"),
         }
-        Kind::Boolean(b) => {
-            hex::word(to, b"boolean ");
-            hex::flag(to, b)
-        }
-        Kind::Text { start, len } => stretch(to, b"text ", start, len),
-        Kind::Object => hex::word(to, b"object"),
-        Kind::Null => hex::word(to, b"null"),
-        Kind::Undefined => hex::word(to, b"undefined"),
-        Kind::Array => hex::word(to, b"array"),
-        Kind::Malformed => hex::word(to, b"bad"),
     }
 }
 
-fn found(to: Stdout, r: Found) {
-    match r {
-        Found::At(n) => {
-            hex::word(to, b"at ");
-            hex::decimal(to, n as u64)
-        }
-        Found::Absent => hex::word(to, b"absent"),
-        Found::Malformed => hex::word(to, b"bad"),
+impl fmt::Display for Shown<Span> {
+    fn fmt<W: fmt::Write>(&self, f: &mut fmt::Formatter<W>) -> fmt::Result {
+        write!(f, "{} {}", self.0.start, self.0.len)
     }
 }
 
-fn text(to: Stdout, r: TextAt) {
-    match r {
-        TextAt::At { start, len } => stretch(to, b"", start, len),
-        TextAt::Absent => hex::word(to, b"absent"),
+// Where the value of a property stands, if there is one.
+#[derive(Clone, Copy)]
+struct At(Option<usize>);
+
+impl fmt::Display for At {
+    fn fmt<W: fmt::Write>(&self, f: &mut fmt::Formatter<W>) -> fmt::Result {
+        match self.0 {
+            Some(n) => write!(f, "at {n}"),
+            None => f.write_str("absent"),
+        }
     }
 }
 
 // How many values there are; where the first ends; its kind; where the value of its property `code` stands; the place of that text, and
 // its bytes.
-pub fn case(to: Stdout, given: &[u8]) {
-    counted(to, amf0::count_values(given, 0));
-    hex::tab(to);
-    next(to, amf0::skip(given, 0));
-    hex::tab(to);
-    kind(to, amf0::kind_at(given, 0));
-    hex::tab(to);
-    found(to, amf0::find(given, 0, b"code"));
-    hex::tab(to);
-    text(to, amf0::text_at(given, 0, b"code"));
-    hex::tab(to);
-    hex::digits(to, amf0::text_property(given, 0, b"code"));
+pub fn case<W: Write>(to: &mut W, given: &[u8]) -> io::Result<()> {
+    write!(
+        to,
+        "{}\t{}\t{}\t{}\t{}\t{}",
+        OrWord(amf0::count_values(given, 0).ok(), "bad"),
+        OrWord(amf0::skip(given, 0).ok(), "bad"),
+        OrWord(amf0::kind_at(given, 0).ok().map(Shown), "bad"),
+        OrWord(amf0::find(given, 0, b"code").ok().map(At), "bad"),
+        OrWord(amf0::text_at(given, 0, b"code").map(Shown), "absent"),
+        Hex(amf0::text_property(given, 0, b"code"))
+    )
 }

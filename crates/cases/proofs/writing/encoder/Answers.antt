@@ -4,11 +4,10 @@ use Rattle.std.proofs.Common.{length-take, rules}
 use Rattle.amf0.specs.Places.{stretch}
 use Rattle.cases.proofs.writing.encoder.Goals as goal
 
--- src/writing.rt:111:9
-pub returns-then-byte-eq0 : goal.returns-then-byte-eq0
+pub returns-then-is_there : goal.returns-then-is_there
 unfolding stretch
-returns-then-byte-eq0 c = search rules
+returns-then-is_there c = simp length-take (min-le_left 255 _)
 
-pub returns : goal.returns
+pub returns-else-is_there : goal.returns-else-is_there
 unfolding stretch
-returns c = simp length-take (min-le_left 255 _)
+returns-else-is_there c = search rules

@@ -1,0 +1,57 @@
+// Hexadecimal read and written.
+ghost use Rattle.std.specs.Prelude.{◌<◌, ◌≤◌, length};
+
+use std::fmt;
+
+fn nibble(b: u8) -> u8
+    ensures { result < 16 }
+{
+    match b {
+        b'0'..=b'9' => b - b'0',
+        b'a'..=b'f' => b - b'a' + 10,
+        _ => 0,
+    }
+}
+
+// The bytes that s spells, as many as `space` has room for. A point between two bytes is passed over.
+pub fn decode<'a>(s: &[u8], space: &'a mut [u8]) -> &'a [u8]
+    ensures { length result.now ≤ length space.old }
+{
+    let mut digits = s.iter().copied();
+    let mut n = 0;
+    for b in space.iter_mut() {
+        let Some(high) = digits.find(|c| *c != b'.') else {
+            break;
+        };
+        let Some(low) = digits.next() else {
+            break;
+        };
+        *b = nibble(high) * 16 + nibble(low);
+        n += 1;
+    }
+    &space[..n]
+}
+
+// Bytes that print as their digits, two each.
+#[derive(Clone, Copy)]
+pub struct Hex<'a>(pub &'a [u8]);
+
+impl fmt::Display for Hex<'_> {
+    fn fmt<W: fmt::Write>(&self, f: &mut fmt::Formatter<W>) -> fmt::Result {
+        for b in self.0 {
+            write!(f, "{b:02x}")?;
+        }
+        Ok(())
+    }
+}
+
+// A number that prints in at least so many digits.
+#[derive(Clone, Copy)]
+pub struct Digits(pub u64, pub usize);
+
+impl fmt::Display for Digits {
+    fn fmt<W: fmt::Write>(&self, f: &mut fmt::Formatter<W>) -> fmt::Result {
+        let Digits(n, width) = *self;
+        write!(f, "{n:0width$x}")
+    }
+}
