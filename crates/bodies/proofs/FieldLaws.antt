@@ -6,38 +6,39 @@ use mathlib.Core.Path.{◌≡◌, refl, sym}
 use mathlib.Core.List.{List, [], ◌++◌, append_assoc, append-nil}
 use lib.ListN.{length, length-append}
 use Rattle.std.specs.Prelude.{Option, Some, None, Bool, Float}
+use Rattle.std.specs.Option.{option_map}
 use Rattle.octets.specs.Compare.{ascii, part}
 use Rattle.octets.specs.declared.output.Writer.{Writer}
 use Rattle.octets.specs.Output.{Put}
 use Rattle.octets.proofs.OutputLaws.{then}
-use Rattle.amf0.specs.Value.{Value, text, object, Props, end, Values, nil, cons}
+use Rattle.amf0.specs.Value.{Value, boolean, text, object, Props, end, Values, nil, cons}
 use Rattle.amf0.specs.Encode.{text_bytes, encode, encode_props, encode_values, object_start, object_end}
 use Rattle.amf0.specs.Places.{stretch}
 use Rattle.octets.specs.declared.span.Span.{Span}
 use Rattle.amf0.proofs.EncodeLaws.{lengths}
 use Rattle.messages.specs.declared.stream_metadata.StreamMetadata.{StreamMetadata}
 use Rattle.bodies.specs.MetadataBody.{whole_prop, rate_prop, flag_prop, text_prop, metadata_props, metadata_body}
-use Rattle.bodies.specs.Fields.{whole_value, rate_value, flag_value, text_value, video_fields, rate_fields, last_fields, fields, field_bytes, fields_bytes, prop_if, present}
+use Rattle.bodies.specs.Fields.{whole_value, rate_value, text_value, video_fields, rate_fields, last_fields, fields, field_bytes, fields_bytes, prop_if, present}
 use Rattle.bodies.specs.Sizes.{size_if, video_size, rate_size, last_size}
 use Rattle.octets.specs.Span.{span}
 
 -- ---- as properties
-whole-prop : (name : List ℕ) (v : Option ℕ) (ps : Props) → whole_prop name v ps ≡ prop_if name (whole_value v) ps
+whole-prop : (name : List ℕ) (v : Option ℕ) (ps : Props) → whole_prop name v ps ≡ prop_if name (option_map whole_value v) ps
 unfolding whole_prop prop_if
 whole-prop name (Some n) ps = refl
 whole-prop name None ps = refl
 
-rate-prop : (name : List ℕ) (v : Option Float) (ps : Props) → rate_prop name v ps ≡ prop_if name (rate_value v) ps
+rate-prop : (name : List ℕ) (v : Option Float) (ps : Props) → rate_prop name v ps ≡ prop_if name (option_map rate_value v) ps
 unfolding rate_prop prop_if
 rate-prop name (Some x) ps = refl
 rate-prop name None ps = refl
 
-flag-prop : (name : List ℕ) (v : Option Bool) (ps : Props) → flag_prop name v ps ≡ prop_if name (flag_value v) ps
+flag-prop : (name : List ℕ) (v : Option Bool) (ps : Props) → flag_prop name v ps ≡ prop_if name (option_map boolean v) ps
 unfolding flag_prop prop_if
 flag-prop name (Some b) ps = refl
 flag-prop name None ps = refl
 
-text-prop : (s name : List ℕ) (v : Option Span) (ps : Props) → text_prop s name v ps ≡ prop_if name (text_value s v) ps
+text-prop : (s name : List ℕ) (v : Option Span) (ps : Props) → text_prop s name v ps ≡ prop_if name (option_map (text_value s) v) ps
 unfolding text_prop prop_if
 text-prop s name (Some p) ps = refl
 text-prop s name None ps = refl
@@ -94,25 +95,21 @@ pub stretch-at : (s : List ℕ) {v : (Option Span)} {start len : ℕ} → v ≡ 
 unfolding stretch
 stretch-at s e = rw e
 
-length_whole : (name : List ℕ) (v : Option ℕ) → length (field_bytes name (whole_value v)) ≡ size_if (whole_value v) (length name + 11)
+-- a field whose value takes k bytes with the 2 that say how long its name is
+length-field : {A : Type 0} (value : A → Value) (k : ℕ) → ((x : A) → 2 + length (encode (value x)) ≡ k) → (name : List ℕ) (v : Option A)
+    → length (field_bytes name (option_map value v)) ≡ size_if v (length name + k)
 unfolding field_bytes
-length_whole name (Some n) = simp (length-append, lengths) (omega arith)
-length_whole name None = refl
+length-field value k h name (Some x) = let e = h x in simp (length-append, lengths) (omega arith)
+length-field value k h name None = refl
 
-length-rate : (name : List ℕ) (v : Option Float) → length (field_bytes name (rate_value v)) ≡ size_if (rate_value v) (length name + 11)
-unfolding field_bytes
-length-rate name (Some x) = simp (length-append, lengths) (omega arith)
-length-rate name None = refl
-
-length-flag : (name : List ℕ) (v : Option Bool) → length (field_bytes name (flag_value v)) ≡ size_if (flag_value v) (length name + 4)
-unfolding field_bytes
-length-flag name (Some b) = simp (length-append, lengths) (omega arith)
-length-flag name None = refl
-
-length-encoder : (s name : List ℕ) (v : Option Span) → length (field_bytes name (text_value s v)) ≡ size_if (text_value s v) (length (stretch s v) + (length name + 5))
+length-encoder : (s name : List ℕ) (v : Option Span) → length (field_bytes name (option_map (text_value s) v)) ≡ size_if v (length (stretch s v) + (length name + 5))
 unfolding field_bytes stretch
 length-encoder s name (Some p) = simp (length-append, lengths) (omega arith)
 length-encoder s name None = refl
 
 pub length-metadata : (s : List ℕ) (m : StreamMetadata) → length (metadata_body s m) ≡ 30 + video_size m + rate_size m + last_size s m
-length-metadata s m = rw body_is (simp (length-append, lengths, length_whole, length-rate, length-flag, length-encoder) (omega arith))
+length-metadata s m =
+    let whole = length-field whole_value 11 (λ n. simp lengths) in
+    let rate = length-field rate_value 11 (λ x. simp lengths) in
+    let flag = length-field boolean 4 (λ b. simp lengths) in
+    rw body_is (simp (length-append, lengths, whole, rate, flag, length-encoder) (omega arith))

@@ -7,10 +7,11 @@ use mathlib.Core.Path.{◌≡◌, refl, ap}
 use mathlib.Core.List.{List, [], ◌∷◌, ◌++◌, Memᴰ}
 use lib.ListN.{length, drop, get_or}
 use Rattle.std.specs.Prelude.{Some, None, Option, Bool, Float}
+use Rattle.std.specs.Option.{option_map}
 use Rattle.octets.specs.Compare.{part}
 use Rattle.octets.specs.Parse.{Parse, got}
 use Rattle.numbers.proofs.Laws.{held-number_of, narrowed-sent}
-use Rattle.amf0.specs.Value.{text, object}
+use Rattle.amf0.specs.Value.{boolean, text, object}
 use Rattle.amf0.specs.Decode.{Property, top_value}
 use Rattle.amf0.specs.Encode.{encode}
 use Rattle.amf0.specs.Lookup.{property, properties_at}
@@ -22,7 +23,7 @@ use Rattle.messages.proofs.FieldLaws.{FieldStands, field-stands}
 use Rattle.messages.specs.Metadata.{field_kind, whole_field, rate_field, flag_field, text_field, metadata_in, metadata_at}
 use Rattle.messages.specs.declared.stream_metadata.StreamMetadata.{StreamMetadata}
 use Rattle.bodies.specs.MetadataBody.{metadata_props}
-use Rattle.bodies.specs.Fields.{whole_value, rate_value, flag_value, text_value, Field, fields}
+use Rattle.bodies.specs.Fields.{whole_value, rate_value, text_value, Field, fields}
 use Rattle.bodies.proofs.CommandRound.{Sendable}
 use Rattle.bodies.proofs.MetadataRound.{field-round, RateFits, object-fits}
 
@@ -32,22 +33,22 @@ WholeFits (Some n) = n < 2 ^ 32
 WholeFits None = Unit {0}
 
 module _ (b : List ℕ) (k : Option Kind) where
-  whole_back : (v : Option ℕ) → WholeFits v → FieldStands b (whole_value v) k → whole_field k ≡ v
+  whole_back : (v : Option ℕ) → WholeFits v → FieldStands b (option_map whole_value v) k → whole_field k ≡ v
   unfolding kind_of
   whole_back (Some n) h t = rw t.is (ap Some (held-number_of n h))
   whole_back None h t = rw t.is
 
-  rate_back : (v : Option Float) → RateFits v → FieldStands b (rate_value v) k → rate_field k ≡ v
+  rate_back : (v : Option Float) → RateFits v → FieldStands b (option_map rate_value v) k → rate_field k ≡ v
   unfolding kind_of
   rate_back (Some x) h t = rw t.is (ap Some (narrowed-sent x h))
   rate_back None h t = rw t.is
 
-  flag_back : (v : Option Bool) → FieldStands b (flag_value v) k → flag_field k ≡ v
+  flag_back : (v : Option Bool) → FieldStands b (option_map boolean v) k → flag_field k ≡ v
   unfolding kind_of
   flag_back (Some x) t = rw t.is
   flag_back None t = rw t.is
 
-  text-back : (s : List ℕ) (v : Option Span) → FieldStands b (text_value s v) k → text_value b (text_field k) ≡ text_value s v
+  text-back : (s : List ℕ) (v : Option Span) → FieldStands b (option_map (text_value s) v) k → option_map (text_value b) (text_field k) ≡ option_map (text_value s) v
   unfolding kind_of
   text-back s (Some p) t = rw t.is (ap (λ (x : List ℕ). Some (text x)) (t.lies (part s p.start p.len) refl).is)
   text-back s None t = rw t.is
@@ -118,6 +119,6 @@ module _ (s : List ℕ) (m : StreamMetadata) (f : Sound s m) (b : List ℕ) (at 
         flag_back b _ m.audio_is_stereo (nth 9 (omega arith)),
       )
 
-  pub encoder_read : text_value b (metadata_at b (drop at b)).encoder ≡ text_value s m.encoder
+  pub encoder_read : option_map (text_value b) (metadata_at b (drop at b)).encoder ≡ option_map (text_value s) m.encoder
   unfolding metadata_in
   encoder_read = text-back b _ s m.encoder (nth 10 (omega arith))

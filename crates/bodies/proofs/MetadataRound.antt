@@ -12,11 +12,12 @@ use lib.Ieee.{binary32, fits}
 use lib.Ieee.Fits.{fits_widens}
 use borrow.Author.Tests.{ltb-true, not-true}
 use Rattle.std.specs.Prelude.{Option, Some, None, Float}
+use Rattle.std.specs.Option.{option_map}
 use Rattle.octets.specs.Compare.{ascii, same}
 use Rattle.octets.proofs.CompareLaws.{same-ne, ne_same, eq-same}
 use Rattle.octets.proofs.Utf8Laws.{all_ascii}
 use Rattle.numbers.proofs.Laws.{sent-lt}
-use Rattle.amf0.specs.Value.{Value, text, object, Props, nil, cons}
+use Rattle.amf0.specs.Value.{Value, boolean, text, object, Props, nil, cons}
 use Rattle.amf0.specs.Encode.{encode_values, Within, PropsWithin, ValuesWithin}
 use Rattle.amf0.specs.Lookup.{lookup}
 use Rattle.amf0.specs.Places.{stretch}
@@ -25,7 +26,7 @@ use Rattle.amf0.proofs.RoundTrip.{next_round, values-round}
 use Rattle.messages.specs.Incoming.{values, data_of, decode}
 use Rattle.messages.specs.declared.stream_metadata.StreamMetadata.{StreamMetadata}
 use Rattle.bodies.specs.MetadataBody.{metadata_props, metadata_values, metadata_body}
-use Rattle.bodies.specs.Fields.{whole_value, rate_value, flag_value, text_value, Field, fields, prop_if, present}
+use Rattle.bodies.specs.Fields.{whole_value, rate_value, text_value, Field, fields, prop_if, present}
 use Rattle.bodies.proofs.FieldLaws.{props_are}
 use Rattle.bodies.proofs.CommandRound.{Sendable, sendable-ascii, text-within, number-within, prop-within, object-within}
 
@@ -126,21 +127,21 @@ abbrev pub RateFits : Option Float → Type 0
 RateFits (Some x) = T (fits binary32 x)
 RateFits None = Unit {0}
 
-whole-fits : (v : Option ℕ) → ValueFits (whole_value v)
+whole-fits : (v : Option ℕ) → ValueFits (option_map whole_value v)
 whole-fits (Some n) = number-within n 7 (omega arith)
 whole-fits None = tt
 
-rate-fits : (v : Option Float) → RateFits v → ValueFits (rate_value v)
+rate-fits : (v : Option Float) → RateFits v → ValueFits (option_map rate_value v)
 unfolding Within
 rate-fits (Some x) h = (omega arith, sent-lt x (fits_widens x h))
 rate-fits None h = tt
 
-flag-fits : (v : Option Bool) → ValueFits (flag_value v)
+flag-fits : (v : Option Bool) → ValueFits (option_map boolean v)
 unfolding Within
 flag-fits (Some b) = omega arith
 flag-fits None = tt
 
-text-fits : (s : List ℕ) (v : Option Span) → Sendable (stretch s v) → ValueFits (text_value s v)
+text-fits : (s : List ℕ) (v : Option Span) → Sendable (stretch s v) → ValueFits (option_map (text_value s) v)
 unfolding stretch
 text-fits s (Some p) h = text-within 7 (omega arith) h
 text-fits s None h = tt

@@ -1,7 +1,8 @@
 -- The eleven fields of metadata with the names and values that they are sent under. `proofs/MetadataRound.antt` shows that each name's value is
 -- what stands in the object that is sent.
 -- Assumes nothing.
-use Rattle.std.specs.Prelude.{ℕ, List, [], ◌∷◌, ◌++◌, Option, Some, None, Bool, Float}
+use Rattle.std.specs.Prelude.{ℕ, List, [], ◌∷◌, ◌++◌, Option, Some, None, Float}
+use Rattle.std.specs.Option.{option_map}
 use Rattle.std.specs.Float.{binary64}
 use Rattle.std.specs.Float.Ieee.{to_bits}
 use Rattle.octets.specs.Compare.{ascii, part}
@@ -11,23 +12,15 @@ use Rattle.amf0.specs.Encode.{text_bytes, encode}
 use Rattle.octets.specs.declared.span.Span.{Span}
 use Rattle.messages.specs.declared.stream_metadata.StreamMetadata.{StreamMetadata}
 
--- the value that a field is sent as, or none where it is absent
-abbrev pub whole_value : Option ℕ → Option Value
-whole_value (Some n) = Some (number (number_of n))
-whole_value None = None
+-- the value that a whole number is sent as, a single, and a text that lies in s; a flag is `boolean`
+abbrev pub whole_value : ℕ → Value
+whole_value n = number (number_of n)
 
-abbrev pub rate_value : Option Float → Option Value
-rate_value (Some x) = Some (number (to_bits binary64 x))
-rate_value None = None
+abbrev pub rate_value : Float → Value
+rate_value x = number (to_bits binary64 x)
 
-abbrev pub flag_value : Option Bool → Option Value
-flag_value (Some b) = Some (boolean b)
-flag_value None = None
-
--- a text that lies in s
-abbrev pub text_value : List ℕ → Option Span → Option Value
-text_value s (Some p) = Some (text (part s p.start p.len))
-text_value s None = None
+abbrev pub text_value : List ℕ → Span → Value
+text_value s p = text (part s p.start p.len)
 
 pub record Field : Type 0 where
   pub name : List ℕ
@@ -36,25 +29,25 @@ pub record Field : Type 0 where
 -- in document 01's order, in three groups
 abbrev pub video_fields : StreamMetadata → List Field
 video_fields m =
-    record { name = ascii "width"; value = whole_value m.video_width }
-    ∷ record { name = ascii "height"; value = whole_value m.video_height }
-    ∷ record { name = ascii "videocodecid"; value = whole_value m.video_codec_id }
-    ∷ record { name = ascii "framerate"; value = rate_value m.video_frame_rate }
+    record { name = ascii "width"; value = option_map whole_value m.video_width }
+    ∷ record { name = ascii "height"; value = option_map whole_value m.video_height }
+    ∷ record { name = ascii "videocodecid"; value = option_map whole_value m.video_codec_id }
+    ∷ record { name = ascii "framerate"; value = option_map rate_value m.video_frame_rate }
     ∷ []
 
 abbrev pub rate_fields : StreamMetadata → List Field
 rate_fields m =
-    record { name = ascii "videodatarate"; value = whole_value m.video_bitrate_kbps }
-    ∷ record { name = ascii "audiocodecid"; value = whole_value m.audio_codec_id }
-    ∷ record { name = ascii "audiodatarate"; value = whole_value m.audio_bitrate_kbps }
-    ∷ record { name = ascii "audiosamplerate"; value = whole_value m.audio_sample_rate }
+    record { name = ascii "videodatarate"; value = option_map whole_value m.video_bitrate_kbps }
+    ∷ record { name = ascii "audiocodecid"; value = option_map whole_value m.audio_codec_id }
+    ∷ record { name = ascii "audiodatarate"; value = option_map whole_value m.audio_bitrate_kbps }
+    ∷ record { name = ascii "audiosamplerate"; value = option_map whole_value m.audio_sample_rate }
     ∷ []
 
 abbrev pub last_fields : List ℕ → StreamMetadata → List Field
 last_fields s m =
-    record { name = ascii "audiochannels"; value = whole_value m.audio_channels }
-    ∷ record { name = ascii "stereo"; value = flag_value m.audio_is_stereo }
-    ∷ record { name = ascii "encoder"; value = text_value s m.encoder }
+    record { name = ascii "audiochannels"; value = option_map whole_value m.audio_channels }
+    ∷ record { name = ascii "stereo"; value = option_map boolean m.audio_is_stereo }
+    ∷ record { name = ascii "encoder"; value = option_map (text_value s) m.encoder }
     ∷ []
 
 abbrev pub fields : List ℕ → StreamMetadata → List Field

@@ -1,12 +1,13 @@
 // The metadata message, type 18.
-ghost use Rattle.std.specs.Prelude.{◌≡◌, ◌++◌, ◌+◌, ◌<◌, ◌≤◌, ◌^◌, length};
+ghost use Rattle.std.specs.Prelude.{◌≡◌, ℕ, ◌++◌, ◌+◌, ◌<◌, ◌≤◌, ◌^◌, length};
+ghost use Rattle.std.specs.Option.{option_map};
 ghost use Rattle.octets.specs.Compare.{ascii};
 ghost use Rattle.octets.specs.Output.{Room, Put, Written};
-ghost use Rattle.amf0.specs.Value.{text as a_text};
-ghost use Rattle.amf0.specs.Encode.{encode, object_start, object_end};
+ghost use Rattle.amf0.specs.Value.{Value, boolean, text as a_text};
+ghost use Rattle.amf0.specs.Encode.{text_bytes, encode, object_start, object_end};
 ghost use Rattle.amf0.specs.Places.{stretch};
 ghost use Rattle.bodies.specs.MetadataBody.{metadata_body};
-ghost use Rattle.bodies.specs.Fields.{whole_value, rate_value, flag_value, text_value, video_fields, rate_fields, last_fields, field_bytes, fields_bytes};
+ghost use Rattle.bodies.specs.Fields.{whole_value, rate_value, text_value, video_fields, rate_fields, last_fields, field_bytes, fields_bytes};
 ghost use Rattle.bodies.specs.Sizes.{size_if, video_size, rate_size, last_size};
 
 use crate::properties::{put_boolean_property, put_number_property, put_text_property};
@@ -14,26 +15,8 @@ use messages::StreamMetadata;
 use octets::{NoSpace, Span, Writer};
 
 // How many bytes a field takes that takes n where it is present.
-fn whole_len(v: Option<u32>, n: usize) -> usize
-    ensures { (result ≡ size_if (whole_value v) n) × (result ≤ n) }
-{
-    match v {
-        Some(_) => n,
-        None => 0,
-    }
-}
-
-fn rate_len(v: Option<f32>, n: usize) -> usize
-    ensures { (result ≡ size_if (rate_value v) n) × (result ≤ n) }
-{
-    match v {
-        Some(_) => n,
-        None => 0,
-    }
-}
-
-fn flag_len(v: Option<bool>, n: usize) -> usize
-    ensures { (result ≡ size_if (flag_value v) n) × (result ≤ n) }
+fn len_if<T: Copy>(v: Option<T>, n: usize) -> usize
+    ensures { (result ≡ size_if v n) × (result ≤ n) }
 {
     match v {
         Some(_) => n,
@@ -44,7 +27,7 @@ fn flag_len(v: Option<bool>, n: usize) -> usize
 // How many bytes the encoder takes, whose text lies in `text`.
 fn encoder_len(v: Option<Span>, text: &[u8]) -> usize
     requires { length (stretch text.now v) < 2 ^ 16 }
-    ensures { (result ≡ size_if (text_value text.now v) (length (stretch text.now v) + 12)) × (result < 2 ^ 17) }
+    ensures { (result ≡ size_if v (length (stretch text.now v) + 12)) × (result < 2 ^ 17) }
 {
     match v {
         Some(found) => octets::part(text, found.start, found.len).len() + 12,
@@ -52,44 +35,69 @@ fn encoder_len(v: Option<Span>, text: &[u8]) -> usize
     }
 }
 
-fn put_whole(w: &mut Writer, name: &[u8], v: Option<u32>)
-    requires name_short { length name.now < 2 ^ 16 }
-    requires room { Room w.old (size_if (whole_value v) (length name.now + 11)) }
-    ensures put { Put w.old (field_bytes name.now (whole_value v)) w.new }
-    ensures value { w.new.at ≡ w.old.at + size_if (whole_value v) (length name.now + 11) }
-{
-    if let Some(n) = v {
-        put_number_property(w, name, numbers::number_of(n));
+// What a field may hold, and how a property with that value is written.
+trait FieldValue: Copy {
+    // The AMF0 value that it is written as.
+    ghost value: { Self → Value };
+
+    // How many bytes the property takes beside those of its name.
+    ghost size: { ℕ };
+
+    fn put_property(self, w: &mut Writer, name: &[u8])
+        requires name_short { length name.now < 2 ^ 16 }
+        requires room { Room w.old (length name.now + size) }
+        ensures put { Put w.old (text_bytes name.now ++ encode (value self)) w.new }
+        ensures at { w.new.at ≡ w.old.at + length name.now + size };
+}
+
+impl FieldValue for u32 {
+    ghost value = { whole_value };
+
+    ghost size = { 11 };
+
+    fn put_property(self, w: &mut Writer, name: &[u8]) {
+        put_number_property(w, name, numbers::number_of(self));
     }
 }
 
-fn put_rate(w: &mut Writer, name: &[u8], v: Option<f32>)
+impl FieldValue for f32 {
+    ghost value = { rate_value };
+
+    ghost size = { 11 };
+
+    fn put_property(self, w: &mut Writer, name: &[u8]) {
+        put_number_property(w, name, numbers::widen(self));
+    }
+}
+
+impl FieldValue for bool {
+    ghost value = { boolean };
+
+    ghost size = { 4 };
+
+    fn put_property(self, w: &mut Writer, name: &[u8]) {
+        put_boolean_property(w, name, self);
+    }
+}
+
+// The property, where the field is present.
+fn put_field<V: FieldValue>(w: &mut Writer, name: &[u8], v: Option<V>)
     requires name_short { length name.now < 2 ^ 16 }
-    requires room { Room w.old (size_if (rate_value v) (length name.now + 11)) }
-    ensures put { Put w.old (field_bytes name.now (rate_value v)) w.new }
-    ensures value { w.new.at ≡ w.old.at + size_if (rate_value v) (length name.now + 11) }
+    requires room { Room w.old (size_if v (length name.now + V.size)) }
+    ensures put { Put w.old (field_bytes name.now (option_map V.value v)) w.new }
+    ensures value { w.new.at ≡ w.old.at + size_if v (length name.now + V.size) }
 {
     if let Some(x) = v {
-        put_number_property(w, name, numbers::widen(x));
+        x.put_property(w, name);
     }
 }
 
-fn put_flag(w: &mut Writer, name: &[u8], v: Option<bool>)
-    requires name_short { length name.now < 2 ^ 16 }
-    requires room { Room w.old (size_if (flag_value v) (length name.now + 4)) }
-    ensures put { Put w.old (field_bytes name.now (flag_value v)) w.new }
-    ensures value { w.new.at ≡ w.old.at + size_if (flag_value v) (length name.now + 4) }
-{
-    if let Some(b) = v {
-        put_boolean_property(w, name, b);
-    }
-}
-
+// The encoder's text lies in `text`, and how many bytes it takes goes by it, so it is no FieldValue.
 fn put_encoder(w: &mut Writer, v: Option<Span>, text: &[u8])
     requires text_short { length (stretch text.now v) < 2 ^ 16 }
-    requires room { Room w.old (size_if (text_value text.now v) (length (stretch text.now v) + 12)) }
-    ensures put { Put w.old (field_bytes (ascii "encoder") (text_value text.now v)) w.new }
-    ensures value { w.new.at ≡ w.old.at + size_if (text_value text.now v) (length (stretch text.now v) + 12) }
+    requires room { Room w.old (size_if v (length (stretch text.now v) + 12)) }
+    ensures put { Put w.old (field_bytes (ascii "encoder") (option_map (text_value text.now) v)) w.new }
+    ensures value { w.new.at ≡ w.old.at + size_if v (length (stretch text.now v) + 12) }
 {
     if let Some(found) = v {
         put_text_property(w, b"encoder", octets::part(text, found.start, found.len));
@@ -100,29 +108,26 @@ fn put_encoder(w: &mut Writer, v: Option<Span>, text: &[u8])
 fn video_len(m: StreamMetadata) -> usize
     ensures { (result ≡ video_size m) × (result ≤ 76) }
 {
-    whole_len(m.video_width, 16)
-        + whole_len(m.video_height, 17)
-        + whole_len(m.video_codec_id, 23)
-        + rate_len(m.video_frame_rate, 20)
+    len_if(m.video_width, 16)
+        + len_if(m.video_height, 17)
+        + len_if(m.video_codec_id, 23)
+        + len_if(m.video_frame_rate, 20)
 }
 
 fn rates_len(m: StreamMetadata) -> usize
     ensures { (result ≡ rate_size m) × (result ≤ 97) }
 {
-    whole_len(m.video_bitrate_kbps, 24)
-        + whole_len(m.audio_codec_id, 23)
-        + whole_len(m.audio_bitrate_kbps, 24)
-        + whole_len(m.audio_sample_rate, 26)
+    len_if(m.video_bitrate_kbps, 24)
+        + len_if(m.audio_codec_id, 23)
+        + len_if(m.audio_bitrate_kbps, 24)
+        + len_if(m.audio_sample_rate, 26)
 }
 
 fn last_len(m: StreamMetadata, text: &[u8]) -> usize
     requires { length (stretch text.now m.encoder) < 2 ^ 16 }
     ensures { (result ≡ last_size text.now m) × (result < 2 ^ 18) }
 {
-    whole_len(m.audio_channels, 24)
-        + flag_len(m.audio_is_stereo, 10)
-        + encoder_len(m.encoder, text)
-        + 3
+    len_if(m.audio_channels, 24) + len_if(m.audio_is_stereo, 10) + encoder_len(m.encoder, text) + 3
 }
 
 fn put_video(w: &mut Writer, m: StreamMetadata)
@@ -130,10 +135,10 @@ fn put_video(w: &mut Writer, m: StreamMetadata)
     ensures put { Put w.old (fields_bytes (video_fields m)) w.new }
     ensures value { w.new.at ≡ w.old.at + video_size m }
 {
-    put_whole(w, b"width", m.video_width);
-    put_whole(w, b"height", m.video_height);
-    put_whole(w, b"videocodecid", m.video_codec_id);
-    put_rate(w, b"framerate", m.video_frame_rate);
+    put_field(w, b"width", m.video_width);
+    put_field(w, b"height", m.video_height);
+    put_field(w, b"videocodecid", m.video_codec_id);
+    put_field(w, b"framerate", m.video_frame_rate);
 }
 
 fn put_rates(w: &mut Writer, m: StreamMetadata)
@@ -141,10 +146,10 @@ fn put_rates(w: &mut Writer, m: StreamMetadata)
     ensures put { Put w.old (fields_bytes (rate_fields m)) w.new }
     ensures value { w.new.at ≡ w.old.at + rate_size m }
 {
-    put_whole(w, b"videodatarate", m.video_bitrate_kbps);
-    put_whole(w, b"audiocodecid", m.audio_codec_id);
-    put_whole(w, b"audiodatarate", m.audio_bitrate_kbps);
-    put_whole(w, b"audiosamplerate", m.audio_sample_rate);
+    put_field(w, b"videodatarate", m.video_bitrate_kbps);
+    put_field(w, b"audiocodecid", m.audio_codec_id);
+    put_field(w, b"audiodatarate", m.audio_bitrate_kbps);
+    put_field(w, b"audiosamplerate", m.audio_sample_rate);
 }
 
 // The last fields, and the object's end.
@@ -153,8 +158,8 @@ fn put_last(w: &mut Writer, m: StreamMetadata, text: &[u8])
     requires room { Room w.old (last_size text.now m) }
     ensures { Put w.old (fields_bytes (last_fields text.now m) ++ object_end) w.new }
 {
-    put_whole(w, b"audiochannels", m.audio_channels);
-    put_flag(w, b"stereo", m.audio_is_stereo);
+    put_field(w, b"audiochannels", m.audio_channels);
+    put_field(w, b"stereo", m.audio_is_stereo);
     put_encoder(w, m.encoder, text);
     amf0::put_object_end(w);
 }

@@ -6,4 +6,4 @@ use Rattle.bodies.proofs.metadata_body.put_video.Goals as goal
 
 pub returns-clause-put : goal.returns-clause-put
 returns-clause-put c =
-    then c.put_whole.ensures.put (then c.put_whole-2.ensures.put (then c.put_whole-3.ensures.put (end-put c.put_rate.ensures.put)))
+    then c.put_field.ensures.put (then c.put_field-2.ensures.put (then c.put_field-3.ensures.put (end-put c.put_field-4.ensures.put)))
