@@ -2,15 +2,8 @@
 -- Assumes nothing.
 use Rattle.octets.proofs.OutputLaws.{then}
 use Rattle.bodies.specs.Bodies.{control_body}
-use borrow.Author.Rules.{rules}
 use Rattle.bodies.proofs.controls.put_set_buffer_length.Goals as goal
 
 pub returns-clause-put : goal.returns-clause-put
 unfolding control_body
-returns-clause-put c =
-    search then
-
-pub returns-clause-value : goal.returns-clause-value
-unfolding control_body
-returns-clause-value c =
-    search rules
+returns-clause-put c = search then

@@ -21,6 +21,6 @@ pub returns-in-Some : goal.returns-in-Some
 unfolding field_bytes stretch
 returns-in-Some c = rw (c.in-Some.is, ← c.part.ensures) (search rules)
 
-pub returns-in_default : goal.returns-in_default
+pub returns-in_default-clause-put : goal.returns-in_default-clause-put
 unfolding field_bytes
-returns-in_default c = rw c.in_default.is (record { put = no-put; value = omega arith })
+returns-in_default-clause-put c = rw c.in_default.is no-put

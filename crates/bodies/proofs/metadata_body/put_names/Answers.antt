@@ -4,5 +4,4 @@ use Rattle.octets.proofs.OutputLaws.{then}
 use Rattle.bodies.proofs.metadata_body.put_names.Goals as goal
 
 pub returns-clause-put : goal.returns-clause-put
-returns-clause-put c =
-    search then
+returns-clause-put c = search then
