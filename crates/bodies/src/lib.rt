@@ -1,5 +1,6 @@
 // The bodies that a client sends, each written from the start of a lent output. A text's length has to fit AMF0's 2 bytes; only the
-// session calls these, and its texts have at most 255.
+// session calls these, and its texts have at most 255: they lie in so many bytes, or were tested for it. A type for texts below 2 ^ 16 bytes
+// would be no plainer than `length .. < 2 ^ 16`, as each name that stands here as a literal would have to be wrapped.
 #![tactic(auto)]
 
 mod commands;

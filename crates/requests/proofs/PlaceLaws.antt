@@ -2,16 +2,17 @@
 -- Assumes nothing.
 use Prim.Native.Nat.{ℕ, zero, suc, ◌+◌, ◌<◌, ◌≤◌}
 use mathlib.Core.Path.{◌≡◌, refl, ap, sym, ◌∙◌}
-use mathlib.Core.Bool.{true, false, cond, not, ◌&&◌, ◌||◌, true≢false, false≢true}
+use mathlib.Core.Bool.{true, false, cond, ◌||◌, true≢false, false≢true}
 use mathlib.Core.List.{List, [], ◌∷◌, Memᴰ}
 use Rattle.std.specs.Prelude.{Option, Some, None}
 use Rattle.std.specs.Option.{is_some, is_none}
+use Rattle.std.proofs.lemmas.Bool.{and_parts, or_parts}
 use native.Mathlib.Omega.{arith}
 use native.Mathlib.Numerals.{add-one}
 use borrow.Author.Tests.{eqb-true, eqb-false, eq-eqb, ne_eqb, ltb-true, lt-ltb, leb-true, leb-false, not-true}
 use lib.ListN.{length, get_or, set, length-set, length-map}
 use lib.Seq.{get_or-set_same, get_or-set_other}
-use lib.Dec.{eqb, ltb, leb}
+use lib.Dec.{eqb, leb}
 use Rattle.requests.specs.Texts.{text_sound}
 use Rattle.requests.specs.Places.{empty_place, Slot, open_as, open_count, first_free, free_place, free_place_is, put}
 use Rattle.requests.specs.Places.{held_by, lookup, without, has_number, place_sound, places_sound, all_free}
@@ -19,7 +20,7 @@ use Rattle.requests.specs.declared.outstanding_transaction.OutstandingTransactio
 use Rattle.requests.specs.declared.text.Text.{Text}
 use Rattle.requests.specs.declared.place.Place.{Place}
 use Rattle.requests.specs.declared.place.Request.{Request}
-use Rattle.requests.proofs.BoolLaws.{by_cases, and_left, and_right, or_left, or_right}
+use Rattle.requests.proofs.BoolLaws.{by_cases}
 
 -- a place with a request
 abbrev pub opened : ℕ → OutstandingTransaction → Text → Place
@@ -156,8 +157,8 @@ unfolding has_number lookup
 lookup-new n k t [] i h e = absurd (omega arith)
 lookup-new n k t (q ∷ ps) zero h e = rw (eq-eqb n n refl)
 lookup-new n k t (q ∷ ps) (suc i) h e =
-    rw (lookup-new n k t ps i (omega arith) (or_right (open_as n q.request) (has_number n ps) e))
-    (shut-held n q.request q.text _ (or_left (open_as n q.request) (has_number n ps) e))
+    let p = or_parts (open_as n q.request) (has_number n ps) e in
+    rw (lookup-new n k t ps i (omega arith) p.1) (shut-held n q.request q.text _ p.0)
 
 module _ (n : ℕ) (k : OutstandingTransaction) (t : Text) (ps : List Place) where
   pub lookup-put-other : (m : ℕ) → (n ≡ m → ⊥) → lookup m (put (opened n k t) ps) ≡ lookup m ps
@@ -207,7 +208,8 @@ pub without-none : (n : ℕ) (ps : List Place) → has_number n ps ≡ false →
 unfolding has_number without
 without-none n [] e = refl
 without-none n (p ∷ ps) e =
-    rw (or_left (open_as n p.request) (has_number n ps) e) (ap (λ l. p ∷ l) (without-none n ps (or_right (open_as n p.request) (has_number n ps) e)))
+    let q = or_parts (open_as n p.request) (has_number n ps) e in
+    rw q.0 (ap (λ l. p ∷ l) (without-none n ps q.1))
 
 -- ---- a request that the search finds, as a member of the places
 held-open : (n : ℕ) (σ : Slot) (t : Text) (o : Option Request) (q : Request) → open_as n σ ≡ true → held_by n σ t o ≡ Some q
@@ -238,14 +240,10 @@ module _ (next : ℕ) (n : ℕ) (k : OutstandingTransaction) (t : Text) (ps : Li
   sound-open : place_sound next (Some (record { 0 = n }, k)) t ps ≡ true → SoundOpen next n t ps
   unfolding place_sound
   sound-open e =
-      let l = and_left (ltb 0 n && ltb n next) (not (has_number n ps) && text_sound t) e in
-      let r = and_right (ltb 0 n && ltb n next) (not (has_number n ps) && text_sound t) e in
-      record {
-        above = ltb-true 0 n (and_left (ltb 0 n) (ltb n next) l);
-        below = ltb-true n next (and_right (ltb 0 n) (ltb n next) l);
-        once = not-true (has_number n ps) (and_left (not (has_number n ps)) (text_sound t) r);
-        text = and_right (not (has_number n ps)) (text_sound t) r;
-      }
+      let l = and_parts _ _ e in
+      let a = and_parts _ _ l.0 in
+      let b = and_parts _ _ l.1 in
+      record { above = ltb-true 0 n a.0; below = ltb-true n next a.1; once = not-true _ b.0; text = b.1 }
 
   open-sound : SoundOpen next n t ps → place_sound next (Some (record { 0 = n }, k)) t ps ≡ true
   unfolding place_sound
@@ -258,11 +256,11 @@ free-sound next t ps = refl
 module _ (next : ℕ) (p : Place) (ps : List Place) where
   sound-first : places_sound next (p ∷ ps) ≡ true → place_sound next p.request p.text ps ≡ true
   unfolding places_sound
-  sound-first e = and_left (place_sound next p.request p.text ps) (places_sound next ps) e
+  sound-first e = (and_parts _ _ e).0
 
   sound-rest : places_sound next (p ∷ ps) ≡ true → places_sound next ps ≡ true
   unfolding places_sound
-  sound-rest e = and_right (place_sound next p.request p.text ps) (places_sound next ps) e
+  sound-rest e = (and_parts _ _ e).1
 
   sound-both : place_sound next p.request p.text ps ≡ true → places_sound next ps ≡ true → places_sound next (p ∷ ps) ≡ true
   unfolding places_sound
@@ -277,8 +275,8 @@ unfolding all_free places_sound
 free_places next [] e = refl
 free_places next (p ∷ ps) e =
     sound-both next p ps
-    (free_slot next p.request p.text ps (and_left (is_none p.request) (all_free ps) e))
-    (free_places next ps (and_right (is_none p.request) (all_free ps) e))
+    (free_slot next p.request p.text ps (and_parts _ _ e).0)
+    (free_places next ps (and_parts _ _ e).1)
 
 -- what holds of a place still holds where the next number rises and the others have no number that they had not
 slot_kept : (next next' : ℕ) (σ : Slot) (t : Text) (ps qs : List Place) → next ≤ next'

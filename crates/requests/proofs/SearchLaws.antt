@@ -74,6 +74,3 @@ close-turn n xs ys i h l e o z =
     let x = get_or ys i no-place in
     z ∙ ap (λ c. set ys i (cond c empty_place x)) o
     ∙ map_over_more (λ p. cond (open_as n p.request) empty_place p) xs ys i x h e (get_or_default ys i no-place x (omega arith))
-
-pub drop-step : {A : Type 0} (l : List A) (i : ℕ) (d : A) → i < length l → drop i l ≡ get_or l i d ∷ drop (i + 1) l
-drop-step l i d h = rw (add-one, drop-cons l i d)

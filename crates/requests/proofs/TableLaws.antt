@@ -2,19 +2,19 @@
 -- Assumes nothing.
 use Prim.Native.Nat.{ℕ, ◌<◌, ◌≤◌}
 use mathlib.Core.Path.{◌≡◌, refl}
-use mathlib.Core.Bool.{true, false, cond, ◌&&◌}
+use mathlib.Core.Bool.{true, false, cond}
 use mathlib.Core.List.{List}
 use Rattle.std.specs.Prelude.{Some, None}
+use Rattle.std.proofs.lemmas.Bool.{and_parts}
 use native.Mathlib.Omega.{arith}
 use borrow.Author.Tests.{ltb-true, lt-ltb, leb-true, leb-false, le-leb}
-use lib.Dec.{eqb, ltb, leb}
+use lib.Dec.{eqb}
 use lib.ListN.{length}
 use Rattle.requests.specs.Texts.{fits, stored}
 use Rattle.requests.specs.Places.{open_count, lookup, has_number, place_sound, places_sound}
 use Rattle.requests.specs.Table.{none, requests_sound, spent, eight_open, asked, closed}
 use Rattle.requests.specs.declared.outstanding_transaction.OutstandingTransaction.{OutstandingTransaction}
 use Rattle.requests.specs.declared.table.Requests.{Requests}
-use Rattle.requests.proofs.BoolLaws.{and_left, and_right}
 use Rattle.requests.proofs.TextLaws.{stored-sound}
 use Rattle.requests.proofs.PlaceLaws.{length-put, length_without, lookup-put, lookup-without, not_yet, put-sound, without-sound}
 
@@ -27,13 +27,9 @@ pub record Sound (r : Requests) : Type 0 where
 pub sound : (r : Requests) → requests_sound r ≡ true → Sound r
 unfolding requests_sound
 sound r e =
-    let n = r.next in
-    let l = and_left (ltb 0 n && leb n 4294967296) (places_sound n r.places) e in
-    record {
-      low = ltb-true 0 n (and_left (ltb 0 n) (leb n 4294967296) l);
-      high = leb-true n 4294967296 (and_right (ltb 0 n) (leb n 4294967296) l);
-      places = and_right (ltb 0 n && leb n 4294967296) (places_sound n r.places) e;
-    }
+    let l = and_parts _ _ e in
+    let a = and_parts _ _ l.0 in
+    record { low = ltb-true 0 r.next a.0; high = leb-true r.next 4294967296 a.1; places = l.1 }
 
 of-sound : (r : Requests) → Sound r → requests_sound r ≡ true
 unfolding requests_sound

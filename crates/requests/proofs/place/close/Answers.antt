@@ -1,10 +1,8 @@
 -- `close` meets its contract. The loop's invariant: the places before the one that is due are closed, and the others are as they were.
 -- Assumes nothing.
 use mathlib.Core.Path.{refl, ap, ◌∙◌}
-use mathlib.Core.List.{append-nil}
 use native.Mathlib.Omega.{arith}
-use lib.ListN.{set, drop_of_length-le}
-use lib.Seq.{take_all}
+use lib.ListN.{set}
 use Rattle.requests.specs.Places.{without}
 use Rattle.requests.proofs.SearchLaws.{close-turn}
 use Rattle.requests.proofs.place.close.Goals as goal
@@ -23,10 +21,3 @@ loop-place-preserved c =
           close-turn n c.args.places.now l.places l.place-index (omega arith) (omega arith) l.invariant w.if-is_open_as.ensures (w.places-is ∙ ap (set l.places l.place-index) w.empty.ensures)
       | else-is_open_as w ↦ close-turn n c.args.places.now l.places l.place-index (omega arith) (omega arith) l.invariant w.if-is_open_as.ensures w.places-is
     ]
-
-pub returns : goal.returns
-unfolding without
-returns c =
-    let l = c.loop-place in
-    let ps = c.args.places.now in
-    l.invariant ∙ rw (take_all l.place-index ps (omega arith), drop_of_length-le ps {i = l.place-index} (omega arith), append-nil)

@@ -1,14 +1,11 @@
 -- `each_sound` meets its contract. The loop's invariant: the places are sound exactly if those from `i` on are.
 -- Assumes nothing.
-use mathlib.Core.Path.{refl, sym, ◌∙◌}
+use mathlib.Core.Path.{sym, ◌∙◌}
 use native.Mathlib.Omega.{arith}
 use lib.ListN.{drop_of_length-le}
 use Rattle.requests.specs.Places.{places_sound}
 use Rattle.requests.proofs.SearchLaws.{sound-turn}
 use Rattle.requests.proofs.place.each_sound.Goals as goal
-
-pub loop-i-init : goal.loop-i-init
-loop-i-init c = refl
 
 pub returns-then-not-sound : goal.returns-then-not-sound
 returns-then-not-sound c = sym (c.loop-i.invariant ∙ sound-turn c.args.next c.args.places.now c.loop-i.i (omega arith) c.if-not-sound.ensures)
