@@ -11,6 +11,7 @@ use lib.ListN.{length}
 use lib.Ieee.{binary32, fits}
 use lib.Ieee.Fits.{fits_widens}
 use borrow.Author.Tests.{ltb-true, not-true}
+use Rattle.std.proofs.lemmas.Bool.{and_parts, or_parts}
 use Rattle.std.specs.Prelude.{Option, Some, None, Float}
 use Rattle.std.specs.Option.{option_map}
 use Rattle.octets.specs.Compare.{ascii, same}
@@ -39,14 +40,6 @@ abbrev proper : List Field → Bool
 proper [] = true
 proper (f ∷ fs) = (ltb 0 (length f.name) && ltb (length f.name) (2 ^ 16)) && (all_ascii f.name && (not (has_name f.name fs) && proper fs))
 
-both : (a b : Bool) → (a && b) ≡ true → (a ≡ true) × (b ≡ true)
-both true b h = (refl, h)
-both false b h = absurd (let z : ◌≡◌ {A = ℕ} 0 1 = cc in omega arith)
-
-neither : (a b : Bool) → (a || b) ≡ false → (a ≡ false) × (b ≡ false)
-neither true b h = absurd (let z : ◌≡◌ {A = ℕ} 0 1 = cc in omega arith)
-neither false b h = (refl, h)
-
 record Proper (f : Field) (fs : List Field) : Type 0 where
   some_bytes : 0 < length f.name
   few_bytes : length f.name < 2 ^ 16
@@ -56,10 +49,10 @@ record Proper (f : Field) (fs : List Field) : Type 0 where
 
 proper_first : (f : Field) (fs : List Field) → proper (f ∷ fs) ≡ true → Proper f fs
 proper_first f fs h =
-    let a = both _ _ h in
-    let b = both _ _ a.0 in
-    let c = both _ _ a.1 in
-    let d = both _ _ c.1 in
+    let a = and_parts _ _ h in
+    let b = and_parts _ _ a.0 in
+    let c = and_parts _ _ a.1 in
+    let d = and_parts _ _ c.1 in
     record { some_bytes = ltb-true _ _ b.0; few_bytes = ltb-true _ _ b.1; chars = c.0; once = not-true _ d.0; others = d.1 }
 
 names_proper : (s : List ℕ) (m : StreamMetadata) → proper (fields s m) ≡ true
@@ -82,13 +75,13 @@ missing : (n : List ℕ) (fs : List Field) → has_name n fs ≡ false → looku
 unfolding lookup prop_if
 missing n [] h = refl
 missing n (f ∷ fs) h =
-    let e = neither (same f.name n) (has_name n fs) h in there n f.name f.value (present fs) None e.0 (missing n fs e.1)
+    let e = or_parts (same f.name n) (has_name n fs) h in there n f.name f.value (present fs) None e.0 (missing n fs e.1)
 
 other_name : (n : List ℕ) (f : Field) (fs : List Field) → has_name n fs ≡ false → Memᴰ f fs → same n f.name ≡ false
 other_name n f [] h x'' = elim x'' [ ]
 other_name n f (g ∷ fs) h (Memᴰ.head p) =
-    ne_same n f.name (λ e. same-ne g.name n (neither (same g.name n) (has_name n fs) h).0 (ap (λ (x : Field). x.name) (sym p) ∙ sym e))
-other_name n f (g ∷ fs) h (Memᴰ.tail m) = other_name n f fs (neither (same g.name n) (has_name n fs) h).1 m
+    ne_same n f.name (λ e. same-ne g.name n (or_parts (same g.name n) (has_name n fs) h).0 (ap (λ (x : Field). x.name) (sym p) ∙ sym e))
+other_name n f (g ∷ fs) h (Memᴰ.tail m) = other_name n f fs (or_parts (same g.name n) (has_name n fs) h).1 m
 
 found : (fs : List Field) → proper fs ≡ true → (f : Field) → Memᴰ f fs → lookup f.name (present fs) ≡ f.value
 found [] h f x'' = elim x'' [ ]
