@@ -215,7 +215,7 @@ BODIES = [
      'bodies/src/controls.rt', 'w.put_be32(ms)', 'w.put_be32(stream.0)'),
     ('a ping is answered by a ping', 'bodies/src/controls.rt', 'write_event(out, 7, time.0)', 'write_event(out, 6, time.0)'),
     ('videodatarate is the sound\'s', 'bodies/src/metadata_body.rt:put_rates', 'm.video_bitrate_kbps', 'm.audio_bitrate_kbps'),
-    ('stereo is turned round', 'bodies/src/metadata_body.rt', 'put_boolean_property(w, name, b)', 'put_boolean_property(w, name, !b)'),
+    ('stereo is turned round', 'bodies/src/metadata_body.rt', 'put_boolean_property(w, name, self)', 'put_boolean_property(w, name, !self)'),
     ('metadata is sent into an output a byte too short', 'bodies/src/metadata_body.rt', '.len() + 12', '.len() + 11'),
 ]
 
