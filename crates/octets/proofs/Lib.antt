@@ -1,7 +1,6 @@
 -- The laws that the proofs cite.
 -- Assumes nothing.
 pub mod ParseLaws
-pub mod SpanLaws
 pub mod BigEndianLaws
 pub mod OutputLaws
 pub mod CompareLaws

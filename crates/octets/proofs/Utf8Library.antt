@@ -42,8 +42,8 @@ bounds : (r : Range) (x : ℕ) → within r x ≡ true → (low r ≤ x) × (x �
 bounds (from_to lo hi) x e = let w = both (leb lo x) (leb x hi) e in (leb-true lo x w.0, leb-true x hi w.1)
 
 -- ---- what the library spells
-is_tail : (x : ℕ) → within tail (128 + x % 64) ≡ true
-is_tail x = held tail (128 + x % 64) (omega arith) (omega arith)
+is_tail : (r : Range) (x : ℕ) → r ≡ tail → within r (128 + x % 64) ≡ true
+is_tail r x e = rw e (held tail (128 + x % 64) (omega arith) (omega arith))
 
 module _ (c : ℕ) (s : List ℕ) (o : Octets s) where
   spelt_one : c < 128 → Octets (encode c ++ s)
@@ -54,42 +54,42 @@ module _ (c : ℕ) (s : List ℕ) (o : Octets s) where
   spelt_two : 128 ≤ c → c < 2048 → Octets (encode c ++ s)
   unfolding encode
   spelt_two l h =
-      rw (le-ltb c 128 (omega arith), lt-ltb c 2048 (omega arith)) (char (row 1) ((192 + c / 64) ∷ (128 + c % 64) ∷ []) s (Memᴰ.tail (Memᴰ.head refl)) (rw (held (range 1 0) (192 + c / 64) (omega arith) (omega arith), is_tail c)) o)
+      rw (le-ltb c 128 (omega arith), lt-ltb c 2048 (omega arith)) (char (row 1) ((192 + c / 64) ∷ (128 + c % 64) ∷ []) s (Memᴰ.tail (Memᴰ.head refl)) (rw (held (range 1 0) (192 + c / 64) (omega arith) (omega arith), is_tail (range 1 1) c refl)) o)
 
   spelt_three : 2048 ≤ c → c < 4096 → Octets (encode c ++ s)
   unfolding encode
   spelt_three l h =
-      rw (le-ltb c 128 (omega arith), le-ltb c 2048 (omega arith), lt-ltb c 65536 (omega arith)) (char (row 2) ((224 + c / 4096) ∷ (128 + c / 64 % 64) ∷ (128 + c % 64) ∷ []) s (Memᴰ.tail (Memᴰ.tail (Memᴰ.head refl))) (rw (held (range 2 0) (224 + c / 4096) (omega arith) (omega arith), held (range 2 1) (128 + c / 64 % 64) (omega arith) (omega arith), is_tail c)) o)
+      rw (le-ltb c 128 (omega arith), le-ltb c 2048 (omega arith), lt-ltb c 65536 (omega arith)) (char (row 2) ((224 + c / 4096) ∷ (128 + c / 64 % 64) ∷ (128 + c % 64) ∷ []) s (Memᴰ.tail (Memᴰ.tail (Memᴰ.head refl))) (rw (held (range 2 0) (224 + c / 4096) (omega arith) (omega arith), held (range 2 1) (128 + c / 64 % 64) (omega arith) (omega arith), is_tail (range 2 2) c refl)) o)
 
   spelt_four : 4096 ≤ c → c < 53248 → Octets (encode c ++ s)
   unfolding encode
   spelt_four l h =
-      rw (le-ltb c 128 (omega arith), le-ltb c 2048 (omega arith), lt-ltb c 65536 (omega arith)) (char (row 3) ((224 + c / 4096) ∷ (128 + c / 64 % 64) ∷ (128 + c % 64) ∷ []) s (Memᴰ.tail (Memᴰ.tail (Memᴰ.tail (Memᴰ.head refl)))) (rw (held (range 3 0) (224 + c / 4096) (omega arith) (omega arith), is_tail (c / 64), is_tail c)) o)
+      rw (le-ltb c 128 (omega arith), le-ltb c 2048 (omega arith), lt-ltb c 65536 (omega arith)) (char (row 3) ((224 + c / 4096) ∷ (128 + c / 64 % 64) ∷ (128 + c % 64) ∷ []) s (Memᴰ.tail (Memᴰ.tail (Memᴰ.tail (Memᴰ.head refl)))) (rw (held (range 3 0) (224 + c / 4096) (omega arith) (omega arith), is_tail (range 3 1) (c / 64) refl, is_tail (range 3 2) c refl)) o)
 
   spelt_five : 53248 ≤ c → c < 55296 → Octets (encode c ++ s)
   unfolding encode
   spelt_five l h =
-      rw (le-ltb c 128 (omega arith), le-ltb c 2048 (omega arith), lt-ltb c 65536 (omega arith)) (char (row 4) ((224 + c / 4096) ∷ (128 + c / 64 % 64) ∷ (128 + c % 64) ∷ []) s (Memᴰ.tail (Memᴰ.tail (Memᴰ.tail (Memᴰ.tail (Memᴰ.head refl))))) (rw (held (range 4 0) (224 + c / 4096) (omega arith) (omega arith), held (range 4 1) (128 + c / 64 % 64) (omega arith) (omega arith), is_tail c)) o)
+      rw (le-ltb c 128 (omega arith), le-ltb c 2048 (omega arith), lt-ltb c 65536 (omega arith)) (char (row 4) ((224 + c / 4096) ∷ (128 + c / 64 % 64) ∷ (128 + c % 64) ∷ []) s (Memᴰ.tail (Memᴰ.tail (Memᴰ.tail (Memᴰ.tail (Memᴰ.head refl))))) (rw (held (range 4 0) (224 + c / 4096) (omega arith) (omega arith), held (range 4 1) (128 + c / 64 % 64) (omega arith) (omega arith), is_tail (range 4 2) c refl)) o)
 
   spelt_six : 57344 ≤ c → c < 65536 → Octets (encode c ++ s)
   unfolding encode
   spelt_six l h =
-      rw (le-ltb c 128 (omega arith), le-ltb c 2048 (omega arith), lt-ltb c 65536 (omega arith)) (char (row 5) ((224 + c / 4096) ∷ (128 + c / 64 % 64) ∷ (128 + c % 64) ∷ []) s (Memᴰ.tail (Memᴰ.tail (Memᴰ.tail (Memᴰ.tail (Memᴰ.tail (Memᴰ.head refl)))))) (rw (held (range 5 0) (224 + c / 4096) (omega arith) (omega arith), is_tail (c / 64), is_tail c)) o)
+      rw (le-ltb c 128 (omega arith), le-ltb c 2048 (omega arith), lt-ltb c 65536 (omega arith)) (char (row 5) ((224 + c / 4096) ∷ (128 + c / 64 % 64) ∷ (128 + c % 64) ∷ []) s (Memᴰ.tail (Memᴰ.tail (Memᴰ.tail (Memᴰ.tail (Memᴰ.tail (Memᴰ.head refl)))))) (rw (held (range 5 0) (224 + c / 4096) (omega arith) (omega arith), is_tail (range 5 1) (c / 64) refl, is_tail (range 5 2) c refl)) o)
 
   spelt_seven : 65536 ≤ c → c < 262144 → Octets (encode c ++ s)
   unfolding encode
   spelt_seven l h =
-      rw (le-ltb c 128 (omega arith), le-ltb c 2048 (omega arith), le-ltb c 65536 (omega arith)) (char (row 6) ((240 + c / 262144) ∷ (128 + c / 4096 % 64) ∷ (128 + c / 64 % 64) ∷ (128 + c % 64) ∷ []) s (Memᴰ.tail (Memᴰ.tail (Memᴰ.tail (Memᴰ.tail (Memᴰ.tail (Memᴰ.tail (Memᴰ.head refl))))))) (rw (held (range 6 0) (240 + c / 262144) (omega arith) (omega arith), held (range 6 1) (128 + c / 4096 % 64) (omega arith) (omega arith), is_tail (c / 64), is_tail c)) o)
+      rw (le-ltb c 128 (omega arith), le-ltb c 2048 (omega arith), le-ltb c 65536 (omega arith)) (char (row 6) ((240 + c / 262144) ∷ (128 + c / 4096 % 64) ∷ (128 + c / 64 % 64) ∷ (128 + c % 64) ∷ []) s (Memᴰ.tail (Memᴰ.tail (Memᴰ.tail (Memᴰ.tail (Memᴰ.tail (Memᴰ.tail (Memᴰ.head refl))))))) (rw (held (range 6 0) (240 + c / 262144) (omega arith) (omega arith), held (range 6 1) (128 + c / 4096 % 64) (omega arith) (omega arith), is_tail (range 6 2) (c / 64) refl, is_tail (range 6 3) c refl)) o)
 
   spelt_eight : 262144 ≤ c → c < 1048576 → Octets (encode c ++ s)
   unfolding encode
   spelt_eight l h =
-      rw (le-ltb c 128 (omega arith), le-ltb c 2048 (omega arith), le-ltb c 65536 (omega arith)) (char (row 7) ((240 + c / 262144) ∷ (128 + c / 4096 % 64) ∷ (128 + c / 64 % 64) ∷ (128 + c % 64) ∷ []) s (Memᴰ.tail (Memᴰ.tail (Memᴰ.tail (Memᴰ.tail (Memᴰ.tail (Memᴰ.tail (Memᴰ.tail (Memᴰ.head refl)))))))) (rw (held (range 7 0) (240 + c / 262144) (omega arith) (omega arith), is_tail (c / 4096), is_tail (c / 64), is_tail c)) o)
+      rw (le-ltb c 128 (omega arith), le-ltb c 2048 (omega arith), le-ltb c 65536 (omega arith)) (char (row 7) ((240 + c / 262144) ∷ (128 + c / 4096 % 64) ∷ (128 + c / 64 % 64) ∷ (128 + c % 64) ∷ []) s (Memᴰ.tail (Memᴰ.tail (Memᴰ.tail (Memᴰ.tail (Memᴰ.tail (Memᴰ.tail (Memᴰ.tail (Memᴰ.head refl)))))))) (rw (held (range 7 0) (240 + c / 262144) (omega arith) (omega arith), is_tail (range 7 1) (c / 4096) refl, is_tail (range 7 2) (c / 64) refl, is_tail (range 7 3) c refl)) o)
 
   spelt_nine : 1048576 ≤ c → c < 1114112 → Octets (encode c ++ s)
   unfolding encode
   spelt_nine l h =
-      rw (le-ltb c 128 (omega arith), le-ltb c 2048 (omega arith), le-ltb c 65536 (omega arith)) (char (row 8) ((240 + c / 262144) ∷ (128 + c / 4096 % 64) ∷ (128 + c / 64 % 64) ∷ (128 + c % 64) ∷ []) s (Memᴰ.tail (Memᴰ.tail (Memᴰ.tail (Memᴰ.tail (Memᴰ.tail (Memᴰ.tail (Memᴰ.tail (Memᴰ.tail (Memᴰ.head refl))))))))) (rw (held (range 8 0) (240 + c / 262144) (omega arith) (omega arith), held (range 8 1) (128 + c / 4096 % 64) (omega arith) (omega arith), is_tail (c / 64), is_tail c)) o)
+      rw (le-ltb c 128 (omega arith), le-ltb c 2048 (omega arith), le-ltb c 65536 (omega arith)) (char (row 8) ((240 + c / 262144) ∷ (128 + c / 4096 % 64) ∷ (128 + c / 64 % 64) ∷ (128 + c % 64) ∷ []) s (Memᴰ.tail (Memᴰ.tail (Memᴰ.tail (Memᴰ.tail (Memᴰ.tail (Memᴰ.tail (Memᴰ.tail (Memᴰ.tail (Memᴰ.head refl))))))))) (rw (held (range 8 0) (240 + c / 262144) (omega arith) (omega arith), held (range 8 1) (128 + c / 4096 % 64) (omega arith) (omega arith), is_tail (range 8 2) (c / 64) refl, is_tail (range 8 3) c refl)) o)
 
   spelt : scalar c ≡ true → Octets (encode c ++ s)
   spelt k =
