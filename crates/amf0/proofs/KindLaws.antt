@@ -66,15 +66,6 @@ text-lies d s at {t} {r} e =
     let x : i.rest ≡ drop (at + 1) s = (marker-got (drop at s) i.one).1 ∙ drop-drop 1 at s in
     text-part s (at + 1) (ap text_of (sym x) ∙ h)
 
--- so the part of s at the place that `kind_at` answers is the text
-pub text-told : (d : ℕ) (s : List ℕ) (at : ℕ) {t r : List ℕ} {p : Span} → value (suc d) (drop at s) ≡ got (text t) r
-    → Ok (kind.Text p) ≡ kind_at s (drop at s) → part s p.start p.len ≡ t
-unfolding kind_of
-text-told d s at {t} {r} {p} e k =
-    let q : Ok (kind.Text p) ≡ Ok (kind.Text (span (place_of s r - length t) (length t))) = k ∙ told d s (drop at s) e in
-    let i : p ≡ span (place_of s r - length t) (length t) = cc in
-    rw i (text-lies d s at e)
-
 -- the kind at a place, by its marker
 pub kind-is : (s : List ℕ) (at : ℕ) {k : Marker} → MarkerRead s at k → kind_after s k (drop (at + 1) s) ≡ kind_at s (drop at s)
 unfolding kind_at

@@ -46,10 +46,6 @@ ok-or-none (Some x) e = clash (cc)
 ok-or-none None e = refl
 
 -- the marker at a place
-pub marker-byte : (s : List ℕ) (at : ℕ) → at < length s → marker (drop at s) ≡ coded (marker_of (get_or s at 0)) (drop (at + 1) s)
-unfolding marker
-marker-byte s at h = rw (byte_at s at h)
-
 pub marker-over : (s : List ℕ) (at : ℕ) → length s ≤ at → marker (drop at s) ≡ bad
 unfolding marker
 marker-over s at h = rw (uint-short 1 s at (omega arith))
