@@ -17,13 +17,10 @@ use Rattle.amf0.specs.Places.{malformed, text_place, kind_after, kind_at, kind_o
 use Rattle.amf0.specs.declared.marker.Marker.{Marker}
 use Rattle.amf0.specs.declared.marker.Marker.TheVariants.{Number, Boolean, Text, Object, Null, Undefined, EcmaArray, StrictArray}
 use Rattle.amf0.specs.declared.kinds.Kind.{Kind}
-use Rattle.amf0.specs.declared.kinds.Kind.TheVariants as kind
 use Rattle.amf0.specs.declared.read.Malformed.{Malformed}
 use Rattle.amf0.proofs.CutLaws.{clash, steps, wrapped, marker-got}
 use Rattle.amf0.proofs.PlaceLaws.{MarkerRead}
 use Rattle.amf0.proofs.TextLaws.{text-part}
-use Rattle.octets.specs.Span.{span}
-use Rattle.octets.specs.declared.span.Span.{Span}
 
 module _ (s : List ℕ) (f : List ℕ → Parse Value) (v : Value) (r : List ℕ) where
   kind-of : (w : Value) → w ≡ v → ◌≡◌ {A = Result Kind Malformed} (Ok (kind_of s w r)) (Ok (kind_of s v r))

@@ -105,6 +105,14 @@ unfolding outcome
 or-malformed o bad e = rw e
 or-malformed o (got x r) e = rw e
 
+-- and so, behind `.ok_or(Malformed)?`, a number was read, or there was none
+module _ (n : ℕ) (s : List ℕ) (at : ℕ) {o : Option ℕ} where
+  pub number-read : {x : ℕ} → Ok x ≡ ok_or o malformed → o ≡ read_as None Some (uint n (drop at s)) → UintRead n s at x
+  number-read {x} e q = uint-read n s at x (e ∙ or-malformed o _ q)
+
+  pub no-number : {d : Malformed} → Err d ≡ ok_or o malformed → o ≡ read_as None Some (uint n (drop at s)) → uint n (drop at s) ≡ bad
+  no-number e q = outcome-none _ (e ∙ or-malformed o _ q)
+
 -- an answer `Ok k` to a reading from `at` on
 pub record Read {A : Type 0} (s : List ℕ) (at m k : ℕ) (p : Parse A) : Type 0 where
   pub what : A
@@ -135,6 +143,9 @@ end-got s k a h = ap Ok (sym (place_at s k h))
 pub end-bad : {A : Type 0} (s : List ℕ) (p : Parse A) → p ≡ bad → Err malformed ≡ end_of s p
 unfolding end_of
 end-bad s p e = rw e
+
+pub err-end : {A : Type 0} (s : List ℕ) (p : Parse A) {r : Result ℕ Malformed} → IsErr r → p ≡ bad → r ≡ end_of s p
+err-end s p {r} i e = err-is r i ∙ end-bad s p e
 
 -- the end of a reading whose meaning is wrapped up
 pub forget : {A B : Type 0} (s : List ℕ) (p : Parse A) (g : A → B) → end_of s p ≡ end_of s (and_then p (λ a r. got (g a) r))

@@ -1,4 +1,5 @@
-// AMF0 values: read, found and written.
+// AMF0 values: read, found and written. The readers take `(s, at)`, a slice and a number, since document 01 asks for a "slice-and-number core"
+// under the reader that carries a body and its position.
 #![tactic(auto)]
 
 mod kinds;

@@ -170,3 +170,8 @@ be_is k b e =
     let t : take (suc k) b ≡ b = take_all (suc k) b (omega arith) in
     let z : k - k ≡ 0 = omega arith in
     worth k b e k (omega arith) ∙ rw (t, z) (omega arith)
+
+-- so the number that it makes of the bytes found at the front is the one that `uint` reads
+pub be-read : (k : ℕ) (s : List ℕ) {B : Type 0} (short : B) (is : ℕ → B) {b r : List ℕ} {x : ℕ} → field (suc k) s ≡ got b r
+    → x ≡ sum_through (λ i. byte_worth (k - i) (get_or b i 0)) k → is x ≡ read_as short is (uint (suc k) s)
+be-read k s short is e q = found (suc k) s short is e (q ∙ be_is k _ (found_length (suc k) s e))

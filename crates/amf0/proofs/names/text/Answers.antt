@@ -3,14 +3,14 @@
 use Rattle.std.proofs.Common.{◌≡◌, arith, ◌+◌, ◌-◌, ℕ, take, drop, sym, ap, ◌∙◌}
 use Rattle.octets.specs.Utf8.{utf8}
 use Rattle.octets.specs.Compare.{part}
-use Rattle.amf0.proofs.PlaceLaws.{UintRead, err-is, outcome-none, uint-read, or-malformed}
+use Rattle.amf0.proofs.PlaceLaws.{UintRead, err-is, number-read, no-number}
 use Rattle.amf0.proofs.TextLaws.{text-bad, text-none, text-short, text-wrong, text-good}
 use Rattle.amf0.proofs.names.text.Goals as goal
 use Rattle.amf0.proofs.names.text.Goals.{After-is_utf8, In_ok-n}
 
 -- the length that was read
 length-of : (c : In_ok-n) → UintRead 2 c.args.s.now c.args.at c.in_ok-n.n
-length-of c = uint-read 2 _ _ _ (c.in_ok-n.ensures.value ∙ or-malformed _ _ c.read_be16.ensures)
+length-of c = number-read 2 _ _ c.in_ok-n.ensures.value c.read_be16.ensures
 
 -- and the test of the bytes after it
 tested : (c : After-is_utf8) → utf8 (part c.args.s.now (c.args.at + 2) c.in_ok-n.n) ≡ c.is_utf8.result
@@ -24,7 +24,7 @@ pub returns-in_err-n : goal.returns-in_err-n
 returns-in_err-n c =
     let a = c.args in
     err-is _ c.from_residual.ensures.0
-    ∙ text-bad a.s.now a.at (text-none a.s.now a.at (outcome-none _ (c.in_err-n.ensures.value ∙ or-malformed _ _ c.read_be16.ensures)))
+    ∙ text-bad a.s.now a.at (text-none a.s.now a.at (no-number 2 a.s.now a.at c.in_err-n.ensures.value c.read_be16.ensures))
 
 pub overflow_add-start : goal.overflow_add-start
 overflow_add-start c = omega (arith, (length-of c).within)

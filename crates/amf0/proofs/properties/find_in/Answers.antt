@@ -8,12 +8,9 @@ use Rattle.amf0.proofs.CutLaws.{cuts-value}
 use Rattle.amf0.proofs.PlaceLaws.{err-is, at_read, bad-read}
 use Rattle.amf0.proofs.TextLaws.{NamePlace, name-place, name-last, no_name}
 use Rattle.amf0.proofs.ReadLaws.{object-bad, object-last, object-stop}
-use Rattle.amf0.proofs.FindLaws.{PropertyRead, none_before, best-bad, best-last, find_hit, find_miss}
+use Rattle.amf0.proofs.FindLaws.{PropertyRead, best-bad, best-last, find_hit, find_miss}
 use Rattle.amf0.proofs.properties.find_in.Goals as goal
 use Rattle.amf0.proofs.properties.find_in.Goals.{In-At, In_ok-i-in-At}
-
-pub loop-start-init : goal.loop-start-init
-loop-start-init c = none_before _
 
 -- a name that was read, and the value after it
 name-of : (c : In-At) → NamePlace c.args.s.now c.loop-start.i c.in-At.field-0.start c.in-At.field-0.len

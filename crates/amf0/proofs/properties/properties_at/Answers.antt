@@ -5,7 +5,7 @@ use Rattle.std.specs.Prelude.{Some, Ok}
 use Rattle.amf0.specs.Places.{start_after, start_at}
 use Rattle.amf0.specs.declared.marker.Marker.{Marker}
 use Rattle.amf0.specs.declared.marker.Marker.TheVariants.{Object, EcmaArray}
-use Rattle.amf0.proofs.PlaceLaws.{MarkerRead, UintRead, err-is, outcome-none, marker-read, uint-read, or-malformed, place_at}
+use Rattle.amf0.proofs.PlaceLaws.{MarkerRead, UintRead, err-is, outcome-none, marker-read, number-read, no-number, place_at}
 use Rattle.amf0.proofs.FindLaws.{start-none, start_is, start_other, ecma_short, ecma-is}
 use Rattle.amf0.proofs.properties.properties_at.Goals as goal
 use Rattle.amf0.proofs.properties.properties_at.Goals.{In_ok-marker, In_ok-ok_or-in-EcmaArray}
@@ -20,7 +20,7 @@ start_of c m e = rw (← e) (start_is c.args.s.now c.args.at (marker-of c))
 
 -- the count of an ECMA array
 count_of : (c : In_ok-ok_or-in-EcmaArray) → UintRead 4 c.args.s.now (c.args.at + 1) c.in_ok-ok_or-in-EcmaArray.field-0
-count_of c = uint-read 4 _ _ _ (c.in_ok-ok_or-in-EcmaArray.ensures.value ∙ or-malformed _ _ c.read_be32.ensures)
+count_of c = number-read 4 _ _ c.in_ok-ok_or-in-EcmaArray.ensures.value c.read_be32.ensures
 
 pub returns-in_err-marker : goal.returns-in_err-marker
 returns-in_err-marker c = err-is _ c.from_residual.ensures.0 ∙ start-none c.args.s.now c.args.at (outcome-none _ c.in_err-marker.ensures)
@@ -32,7 +32,7 @@ pub returns-in_err-ok_or-in-EcmaArray : goal.returns-in_err-ok_or-in-EcmaArray
 returns-in_err-ok_or-in-EcmaArray c =
     let a = c.args in
     err-is _ c.from_residual-in_err-ok_or-in-EcmaArray.ensures.0
-    ∙ ecma_short a.s.now (a.at + 1) (outcome-none _ (c.in_err-ok_or-in-EcmaArray.ensures.value ∙ or-malformed _ _ c.read_be32.ensures))
+    ∙ ecma_short a.s.now (a.at + 1) (no-number 4 a.s.now (a.at + 1) c.in_err-ok_or-in-EcmaArray.ensures.value c.read_be32.ensures)
     ∙ start_of (goal.at.returns-in_err-ok_or-in-EcmaArray c).In_ok-marker EcmaArray c.in-EcmaArray.is
 
 pub overflow_add-result : goal.overflow_add-result

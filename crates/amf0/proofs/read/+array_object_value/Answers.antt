@@ -21,8 +21,8 @@ array_item t c = places.at_read c.args.s.now _ 1 _ _ c.loop.invariant.0 (cuts-va
 
 pub array-returns-in_err-i : goal.array-returns-in_err-i
 array-returns-in_err-i t c =
-    places.err-is _ c.from_residual.ensures.0
-    ∙ places.end-bad c.args.s.now _ (laws.values-stop (value_of c.args.left) c.args.s.now c.loop.i (c.args.n - c.loop.counter) (omega (arith, c.loop-test.true))
+    places.err-end c.args.s.now _ c.from_residual.ensures.0
+    (laws.values-stop (value_of c.args.left) c.args.s.now c.loop.i (c.args.n - c.loop.counter) (omega (arith, c.loop-test.true))
     (places.bad-read c.args.s.now _ c.in_err-i.ensures))
     ∙ sym c.loop.invariant.1
 
@@ -50,8 +50,8 @@ object_value t c =
 
 pub object-returns-in_err-e : goal.object-returns-in_err-e
 object-returns-in_err-e t c =
-    places.err-is _ c.from_residual.ensures.0
-    ∙ places.end-bad c.args.s.now _ (laws.object-bad (value_of c.args.left) (cuts-value _) c.args.s.now c.loop-e.i
+    places.err-end c.args.s.now _ c.from_residual.ensures.0
+    (laws.object-bad (value_of c.args.left) (cuts-value _) c.args.s.now c.loop-e.i
     (texts.no_name c.args.s.now _ c.in_err-e.ensures))
     ∙ sym c.loop-e.invariant
 
@@ -66,8 +66,8 @@ object-overflow_add-start t c = omega (arith, (object_name t c).within)
 
 pub object-returns-in_err-i-in-At : goal.object-returns-in_err-i-in-At
 object-returns-in_err-i-in-At t c =
-    places.err-is _ c.from_residual-in_err-i-in-At.ensures.0
-    ∙ places.end-bad c.args.s.now _ (laws.object-stop (value_of c.args.left) (cuts-value _) c.args.s.now _ (object_name t (goal.at.object-returns-in_err-i-in-At t c).In-At)
+    places.err-end c.args.s.now _ c.from_residual-in_err-i-in-At.ensures.0
+    (laws.object-stop (value_of c.args.left) (cuts-value _) c.args.s.now _ (object_name t (goal.at.object-returns-in_err-i-in-At t c).In-At)
     (places.bad-read c.args.s.now _ c.in_err-i-in-At.ensures))
     ∙ sym c.loop-e.invariant
 
@@ -95,18 +95,18 @@ value_content t c m q =
 
 -- the count of an ECMA array and of a strict array
 value_ecma : (t : ℕ) (c : value-In_ok-ok_or-in-EcmaArray t) → places.UintRead 4 c.args.s.now (c.args.at + 1) c.in_ok-ok_or-in-EcmaArray.field-0
-value_ecma t c = places.uint-read 4 _ _ _ (c.in_ok-ok_or-in-EcmaArray.ensures.value ∙ places.or-malformed _ _ c.read_be32.ensures)
+value_ecma t c = places.number-read 4 _ _ c.in_ok-ok_or-in-EcmaArray.ensures.value c.read_be32.ensures
 
 value_strict : (t : ℕ) (c : value-In_ok-n-in-StrictArray t) → places.UintRead 4 c.args.s.now (c.args.at + 1) c.in_ok-n-in-StrictArray.n
-value_strict t c = places.uint-read 4 _ _ _ (c.in_ok-n-in-StrictArray.ensures.value ∙ places.or-malformed _ _ c.read_be32-in-StrictArray.ensures)
+value_strict t c = places.number-read 4 _ _ c.in_ok-n-in-StrictArray.ensures.value c.read_be32-in-StrictArray.ensures
 
 pub value-returns-then-left-eq0 : goal.value-returns-then-left-eq0
 value-returns-then-left-eq0 t c = places.end-bad c.args.s.now _ (laws.value_none c.args.s.now c.args.at c.args.left c.if-left-eq0.true)
 
 pub value-returns-in_err-marker : goal.value-returns-in_err-marker
 value-returns-in_err-marker t c =
-    places.err-is _ c.from_residual.ensures.0
-    ∙ places.end-bad c.args.s.now _ (laws.value_bad c.args.s.now c.args.at c.args.left (places.outcome-none _ c.in_err-marker.ensures))
+    places.err-end c.args.s.now _ c.from_residual.ensures.0
+    (laws.value_bad c.args.s.now c.args.at c.args.left (places.outcome-none _ c.in_err-marker.ensures))
 
 pub value-overflow_add-b : goal.value-overflow_add-b
 value-overflow_add-b t c = omega (arith, (value_marker t c).within)
@@ -119,9 +119,9 @@ value-bytes-requires-in-Boolean t c = omega (arith, (value_marker t (goal.at.val
 
 pub value-returns-in_err-ok_or-in-EcmaArray : goal.value-returns-in_err-ok_or-in-EcmaArray
 value-returns-in_err-ok_or-in-EcmaArray t c =
-    places.err-is _ c.from_residual-in_err-ok_or-in-EcmaArray.ensures.0
-    ∙ places.end-bad _ _ (laws.ecma_short _ c.args.s.now (c.args.at + 1)
-    (places.outcome-none _ (c.in_err-ok_or-in-EcmaArray.ensures.value ∙ places.or-malformed _ _ c.read_be32.ensures)))
+    places.err-end _ _ c.from_residual-in_err-ok_or-in-EcmaArray.ensures.0
+    (laws.ecma_short _ c.args.s.now (c.args.at + 1)
+    (places.no-number 4 c.args.s.now (c.args.at + 1) c.in_err-ok_or-in-EcmaArray.ensures.value c.read_be32.ensures))
     ∙ value_content t (goal.at.value-returns-in_err-ok_or-in-EcmaArray t c).In_ok-marker EcmaArray c.in-EcmaArray.is
 
 pub value-overflow_add-b-in-EcmaArray : goal.value-overflow_add-b-in-EcmaArray
@@ -129,9 +129,9 @@ value-overflow_add-b-in-EcmaArray t c = omega (arith, (value_ecma t c).within)
 
 pub value-returns-in_err-n-in-StrictArray : goal.value-returns-in_err-n-in-StrictArray
 value-returns-in_err-n-in-StrictArray t c =
-    places.err-is _ c.from_residual-in_err-n-in-StrictArray.ensures.0
-    ∙ places.end-bad _ _ (laws.strict-short _ c.args.s.now (c.args.at + 1)
-    (places.outcome-none _ (c.in_err-n-in-StrictArray.ensures.value ∙ places.or-malformed _ _ c.read_be32-in-StrictArray.ensures)))
+    places.err-end _ _ c.from_residual-in_err-n-in-StrictArray.ensures.0
+    (laws.strict-short _ c.args.s.now (c.args.at + 1)
+    (places.no-number 4 c.args.s.now (c.args.at + 1) c.in_err-n-in-StrictArray.ensures.value c.read_be32-in-StrictArray.ensures))
     ∙ value_content t (goal.at.value-returns-in_err-n-in-StrictArray t c).In_ok-marker StrictArray c.in-StrictArray.is
 
 pub value-overflow_add-b-in-StrictArray : goal.value-overflow_add-b-in-StrictArray

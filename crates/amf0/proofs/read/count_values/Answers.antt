@@ -1,16 +1,13 @@
 -- `amf0::read::count_values` meets its contract. The loop keeps that the values from i on are those that are left to count, and that i is at
 -- least n, since each value takes a byte.
 -- Assumes nothing.
-use Rattle.std.proofs.Common.{arith, drop, sym, rules, ◌∙◌}
+use Rattle.std.proofs.Common.{arith, drop, sym, ◌∙◌}
 use Rattle.amf0.specs.Decode.{top_value}
 use Rattle.amf0.proofs.CutLaws.{cuts-value}
 use Rattle.amf0.proofs.PlaceLaws.{Read, err-is, at_read, bad-read}
-use Rattle.amf0.proofs.ReadLaws.{none_before, count-end, count-stop, count-step}
+use Rattle.amf0.proofs.ReadLaws.{count-end, count-stop, count-step}
 use Rattle.amf0.proofs.read.count_values.Goals as goal
 use Rattle.amf0.proofs.read.count_values.Goals.{In_ok-i}
-
-pub loop-i-init : goal.loop-i-init
-loop-i-init c = (search rules, none_before _)
 
 -- a value that was read
 item : (c : In_ok-i) → Read c.args.s.now c.loop-i.i 1 c.in_ok-i.i (top_value (drop c.loop-i.i c.args.s.now))

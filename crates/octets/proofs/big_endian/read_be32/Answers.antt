@@ -1,13 +1,11 @@
 -- `octets::big_endian::read_be32` meets its contract: too few bytes, or the number that they are.
 -- Assumes nothing.
 use mathlib.Core.Path.{◌∙◌}
-use Rattle.octets.proofs.BigEndianLaws.{found, found_length, absent, be_is}
+use Rattle.octets.proofs.BigEndianLaws.{absent, be-read}
 use Rattle.octets.proofs.big_endian.read_be32.Goals as goal
 
 pub returns : goal.returns
-returns c =
-    let e = c.in_ok-bytes_at.ensures in
-    found _ _ _ _ e (c.from_be_bytes.ensures ∙ be_is 3 _ (found_length _ _ e))
+returns c = be-read 3 _ _ _ c.in_ok-bytes_at.ensures c.from_be_bytes.ensures
 
 pub returns-in_err-bytes_at : goal.returns-in_err-bytes_at
 returns-in_err-bytes_at c = c.from_residual.ensures ∙ absent _ _ _ _ c.in_err-bytes_at.ensures
