@@ -43,6 +43,8 @@ rows =
     ∷ body 2 "00000007" (Ok (message.Abort 7))
     ∷ body 3 "ffffffff" (Ok (message.Acknowledgement 4294967295))
     ∷ body 5 "00000004" (Ok (message.WindowAcknowledgement 4))
+    ∷ body 6 "0000000100" (Ok (message.SetPeerBandwidth 1 limit.Hard))
+    ∷ body 6 "0000000101" (Ok (message.SetPeerBandwidth 1 limit.Soft))
     ∷ body 6 "0000000102" (Ok (message.SetPeerBandwidth 1 limit.Dynamic))
     ∷ body 6 "0000000103" (Err malformed)
     ∷ body 6 "00000001" (Err malformed)

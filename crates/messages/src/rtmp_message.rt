@@ -71,7 +71,7 @@ pub struct Command {
     pub first: Option<Argument>,
 }
 
-// Values: `onMetaData` and an object that starts there, or others.
+// Values: `onMetaData` and an object that starts there, or others. No Option: None would say that nothing came, where another message came.
 #[derive(Clone, Copy, Debug, PartialEq, Eq)]
 pub enum DataMessage {
     OnMetaData(usize),

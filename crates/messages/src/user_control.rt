@@ -25,13 +25,14 @@ pub fn user_control(body: &[u8]) -> Result<RtmpMessage, Malformed>
         return set_buffer_length(body);
     }
     let n = last_word(body, 2)?;
-    match event {
-        0 => Ok(RtmpMessage::UserControl(UserControlEvent::StreamBegin(StreamNumber(n)))),
-        1 => Ok(RtmpMessage::UserControl(UserControlEvent::StreamEof(StreamNumber(n)))),
-        2 => Ok(RtmpMessage::UserControl(UserControlEvent::StreamDry(StreamNumber(n)))),
-        4 => Ok(RtmpMessage::UserControl(UserControlEvent::StreamIsRecorded(StreamNumber(n)))),
-        6 => Ok(RtmpMessage::UserControl(UserControlEvent::PingRequest(RtmpTimestamp(n)))),
-        7 => Ok(RtmpMessage::UserControl(UserControlEvent::PingResponse(RtmpTimestamp(n)))),
-        _ => Err(Malformed),
-    }
+    let event = match event {
+        0 => UserControlEvent::StreamBegin(StreamNumber(n)),
+        1 => UserControlEvent::StreamEof(StreamNumber(n)),
+        2 => UserControlEvent::StreamDry(StreamNumber(n)),
+        4 => UserControlEvent::StreamIsRecorded(StreamNumber(n)),
+        6 => UserControlEvent::PingRequest(RtmpTimestamp(n)),
+        7 => UserControlEvent::PingResponse(RtmpTimestamp(n)),
+        _ => return Err(Malformed),
+    };
+    Ok(RtmpMessage::UserControl(event))
 }
