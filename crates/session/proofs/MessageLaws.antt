@@ -60,10 +60,6 @@ module _ {s : ClientSession} {old : List ℕ} {r : Called} where
   pub closed_after : {e : ClientSessionError} {a after : ClientSession} → a ≡ after → r ≡ refused_with a e → Comes s (closing e after) old r old
   closed_after f q = rw (← f) (closed-away q)
 
-  -- nothing, and the session after
-  pub quiet-after : {a after : ClientSession} → a ≡ after → r ≡ quiet a → Comes s (go nothing after) old r old
-  quiet-after e q = rw (← e) (quiet-goes q)
-
   -- an event, and the session after
   pub raised-after : {a after : ClientSession} {e : ClientSessionEvent}
       → a ≡ after → r ≡ record { outcome = Ok (One (RaisedEvent e)); session = a } → Comes s (go (one (raises e)) after) old r old

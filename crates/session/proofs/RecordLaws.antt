@@ -1,7 +1,7 @@
--- A test that failed, and what the settings' texts are in a session: short enough to be sliced and sent.
+-- A test that failed, and what the settings' texts are in a session: short enough to be sent.
 -- Assumes nothing.
 use Rattle.std.specs.Prelude.{Some}
-use Rattle.std.proofs.Common.{◌≡◌, ℕ, ◌^◌, ◌<◌, ◌≤◌, Bool, true, false, not, List, length, arith, leb-true}
+use Rattle.std.proofs.Common.{◌≡◌, ℕ, ◌^◌, ◌<◌, Bool, true, false, not, List, length, arith}
 use borrow.Author.Tests.{not-true}
 use Rattle.requests.proofs.BoolLaws.{and_left, and_right}
 use Rattle.requests.proofs.TextLaws.{text-sound}
@@ -24,10 +24,6 @@ module _ (c : ClientSessionConfig) (e : texts_sound c ≡ true) where
   unfolding texts_sound
   url-sound h = let k = and_right (text_sound c.flash_version) (url_sound_of c.tc_url) e in rw h at k
 
--- a sound text may be sliced, and a body may hold it
-pub sound-len : (t : Text) → text_sound t ≡ true → t.len ≤ 255
-unfolding text_sound
-sound-len t e = leb-true t.len 255 (and_left _ _ e)
-
+-- a body may hold a sound text
 pub sound-short : (t : Text) → text_sound t ≡ true → {s : List ℕ} → s ≡ text_of t → length s < 2 ^ 16
 sound-short t e f = let h = (text-sound t e).1 in rw f (omega arith)
