@@ -4,7 +4,7 @@ use Prim.Native.Nat.{ℕ, ◌≤◌, ◌<◌}
 use native.Mathlib.Omega.{arith}
 use mathlib.Core.Path.{◌≡◌, refl, ap, ◌∙◌}
 use mathlib.Core.Logic.{◌≢◌, ◌⊎◌, inl, inr, ⊎_elim}
-use mathlib.Core.Bool.{Bool, true, false, not, ◌&&◌, ◌||◌}
+use mathlib.Core.Bool.{Bool, true, false, not, ◌&&◌}
 use mathlib.Core.List.{List}
 use lib.Dec.{ltb, leb}
 use lib.ListN.{length}
@@ -39,10 +39,6 @@ decides_true false = record { holds = λ h. clash (cc); fails = λ h k. clash (c
 pub decides_and : (a b : Bool) {P Q : Type 0} → Decides (not a) P → Decides (not b) Q → Decides (not (a && b)) (P ⊎ Q)
 decides_and false b d e = record { holds = λ h. inl (d.holds refl); fails = λ h. clash (cc) }
 decides_and true b d e = record { holds = λ h. inr (e.holds h); fails = λ h. ⊎_elim (d.fails refl) (e.fails h) }
-
-pub decides_or : (a b : Bool) {P Q : Type 0} → Decides (not a) P → Decides (not b) Q → Decides (not (a || b)) (P × Q)
-decides_or true b d e = record { holds = λ h. clash (cc); fails = λ h w. d.fails refl w.0 }
-decides_or false b d e = record { holds = λ h. (d.holds refl, e.holds h); fails = λ h w. e.fails h w.1 }
 
 module _ (a b : ℕ) where
   pub decides_lt : Decides (ltb a b) (a < b)
