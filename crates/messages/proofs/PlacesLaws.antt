@@ -15,13 +15,13 @@ use Rattle.std.specs.Option.{option_map}
 use Rattle.std.specs.Result.{result_unwrap_or}
 use Rattle.octets.specs.Parse.{Parse, bad, got}
 use Rattle.octets.specs.Compare.{same, part}
-use Rattle.octets.proofs.CompareLaws.{same-eq, ne_same}
+use Rattle.octets.proofs.CompareLaws.{ne_same}
 use Rattle.amf0.specs.Decode.{Property, object_of, value}
 use Rattle.amf0.specs.Lookup.{last_of, properties_at}
 use Rattle.amf0.specs.Places.{malformed, start_at, found_at, found_of}
 use Rattle.amf0.specs.declared.read.Malformed.{Malformed}
 use Rattle.amf0.proofs.CutLaws.{clash}
-use Rattle.amf0.proofs.FindLaws.{PropertyRead, or_best, none_before, best-bad, best-last, find_hit, find_miss, found-from}
+use Rattle.amf0.proofs.FindLaws.{PropertyRead, or_best, best-bad, best-last, find_hit, find_miss, found-from}
 use Rattle.messages.specs.Metadata.{field_names, index_in, field_index, field_places, kind_there, field_kind}
 use Rattle.messages.proofs.FieldLaws.{found_there}
 
@@ -73,9 +73,6 @@ own_index : (k : ℕ) → k < 11 → field_index (name_at k) ≡ Some k
 own_index k h =
     sym (map_at field_index field_names k h) ∙ ap (λ (l : List (Option ℕ)). get_or l k None) own_indices ∙ number_at 0 11 k h ∙ ap Some (omega arith)
 
-pub own_name : (n : List ℕ) (k : ℕ) → k < 11 → same n (name_at k) ≡ true → Some k ≡ field_index n
-own_name n k h e = sym (ap field_index (same-eq n (name_at k) e) ∙ own_index k h)
-
 other_name : (n : List ℕ) (k : ℕ) → k < 11 → (field_index n ≡ Some k → ⊥) → same n (name_at k) ≡ false
 other_name n k h ne = ne_same n (name_at k) (λ e. ne (ap field_index e ∙ own_index k h))
 
@@ -88,9 +85,6 @@ pub record Keeps (s : List ℕ) (q : Parse (List Property)) (i : ℕ) (places : 
   pub each : (k : ℕ) → k < 11 → found_of s (name_at k) q ≡ or_best (get_or places k None) (found_of s (name_at k) (object_of (value 7) (drop i s)))
 
 module _ (s : List ℕ) where
-  pub keeps-none : (at : ℕ) → Keeps s (object_of (value 7) (drop at s)) at (replicate 11 None)
-  keeps-none at = record { long = refl; each = λ k h. rw (get_or-replicate {A = Option ℕ} 11 k None None h) (none_before _) }
-
   -- all fields by their index, of properties that were read whole
   by_index : (q : Parse (List Property)) (l : List (Option ℕ)) → length l ≡ 11
       → ((k : ℕ) → k < 11 → found_of s (name_at k) q ≡ Ok (get_or l k None)) → Ok l ≡ field_places s q

@@ -12,6 +12,7 @@ use octets::Span;
 use reader::Reader;
 
 // The name that stands in the body at that place.
+#[tactic(auto, unfolding(crate::specs::Places::name_of))]
 fn command_name(body: &[u8], place: Span) -> CommandName
     ensures { result ≡ name_of (part body.now place.start place.len) }
 {

@@ -22,6 +22,7 @@ fn leading_zero(body: &[u8]) -> usize
 }
 
 // What a body of that type says.
+#[tactic(auto, unfolding(crate::specs::Incoming::decode, crate::specs::Places::placed))]
 pub fn to_rtmp_message(type_id: u8, body: &[u8]) -> Result<RtmpMessage, Malformed>
     ensures { result ≡ placed body.now (decode type_id body.now) }
 {

@@ -15,6 +15,7 @@ pub enum OnStatus {
 }
 
 // The code in the value at `at`; none if it is no object with a text `code`.
+#[tactic(auto, unfolding(crate::specs::Notice::code_of, crate::specs::Notice::code_is))]
 pub fn on_status_code(body: &[u8], at: usize) -> Option<OnStatus>
     ensures { result ≡ code_at body.now (drop at body.now) }
 {

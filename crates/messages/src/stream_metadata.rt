@@ -24,6 +24,7 @@ pub struct StreamMetadata {
 }
 
 // Which field's name that is, in the order of sending; none for another name.
+#[tactic(auto, unfolding(crate::specs::Metadata::index_in))]
 fn field_index(name: &[u8]) -> Option<usize>
     ensures { result ≡ field_index name.now }
 {

@@ -17,6 +17,7 @@ fn set_buffer_length(body: &[u8]) -> Result<RtmpMessage, Malformed>
     Ok(RtmpMessage::UserControl(UserControlEvent::SetBufferLength { stream, length }))
 }
 
+#[tactic(auto, unfolding(crate::specs::Incoming::event_of, crate::specs::Incoming::user_control_of, crate::specs::Places::placed))]
 pub fn user_control(body: &[u8]) -> Result<RtmpMessage, Malformed>
     ensures { result ≡ placed body.now (user_control_of body.now) }
 {

@@ -7,12 +7,9 @@ use Rattle.octets.specs.Compare.{part}
 use Rattle.amf0.proofs.FindLaws.{PropertyRead, property-says}
 use Rattle.amf0.proofs.PlaceLaws.{err-is}
 use Rattle.messages.specs.Metadata.{field_index}
-use Rattle.messages.proofs.PlacesLaws.{index_below, keeps-none, keeps_hit, keeps_miss, kept, none_kept}
+use Rattle.messages.proofs.PlacesLaws.{index_below, keeps_hit, keeps_miss, kept, none_kept}
 use Rattle.messages.proofs.stream_metadata.places_in.Goals as goal
 use Rattle.messages.proofs.stream_metadata.places_in.Goals.{In-Some, In-Some-field_index}
-
-pub loop-name-init : goal.loop-name-init
-loop-name-init c = keeps-none _ _
 
 -- the property that was read
 read : (c : In-Some) → PropertyRead c.args.body.now c.loop-name.i c.in-Some.field-0.name.start c.in-Some.field-0.name.len c.in-Some.field-0.next

@@ -1,21 +1,15 @@
 -- `messages::user_control::user_control` meets its contract.
 -- Assumes nothing.
-use Rattle.std.proofs.Common.{◌≡◌, ℕ, drop, refl, ap, ne_eqb, ◌∙◌}
+use Rattle.std.proofs.Common.{◌≡◌, ℕ, drop, refl, ap, ◌∙◌}
 use Rattle.octets.specs.BigEndian.{uint}
 use Rattle.octets.specs.Parse.{got}
-use Rattle.amf0.proofs.PlaceLaws.{err-is, outcome-none, uint-read, or-malformed}
-use Rattle.messages.specs.Incoming.{Incoming, malformed, user_control, whole, event_of, user_control_of}
+use Rattle.amf0.proofs.PlaceLaws.{err-is, uint-read, or-malformed}
+use Rattle.messages.specs.Incoming.{Incoming, user_control, whole, event_of, user_control_of}
 use Rattle.messages.specs.Places.{placed}
 use Rattle.messages.specs.declared.rtmp_message.UserControlEvent.TheVariants.{StreamBegin, StreamEof, StreamDry, StreamIsRecorded, PingRequest, PingResponse}
 use Rattle.messages.proofs.EventLaws.{control-is, event-is, no-event}
 use Rattle.messages.proofs.user_control.user_control.Goals as goal
 use Rattle.messages.proofs.user_control.user_control.Goals.{In_ok-event, In_ok-n}
-
-pub returns-in_err-event : goal.returns-in_err-event
-unfolding placed user_control_of
-returns-in_err-event c =
-    err-is _ c.from_residual.ensures.0
-    ∙ rw (outcome-none (uint 2 c.args.body.now) (c.in_err-event.ensures.value ∙ or-malformed _ _ c.read_be16.ensures))
 
 -- the event that was read
 event-read : (c : In_ok-event) → uint 2 c.args.body.now ≡ got c.in_ok-event.event (drop 2 c.args.body.now)
@@ -74,20 +68,3 @@ unfolding placed event_of
 returns-in-7 c =
     let b = (goal.at.returns-in-7 c).In_ok-n in
     told b 7 (event-is (drop 2 c.args.body.now) (λ n. PingResponse (record { 0 = n })) b.in_ok-n.ensures) c.in-7.is
-
-pub returns-in_default : goal.returns-in_default
-unfolding placed event_of
-returns-in_default c =
-    let b = (goal.at.returns-in_default c).In_ok-n in
-    let r = c.in_default.in_default-own.rest in
-    let h : malformed ≡ whole user_control (event_of b.in_ok-event.event (drop 2 c.args.body.now)) =
-    simp (
-      ne_eqb _ _ c.if-event-eq3.false,
-      ne_eqb _ _ r.0.0.0.0.0.1,
-      ne_eqb _ _ r.0.0.0.0.1,
-      ne_eqb _ _ r.0.0.0.1,
-      ne_eqb _ _ r.0.0.1,
-      ne_eqb _ _ r.0.1,
-      ne_eqb _ _ r.1,
-    ) in
-    told b _ h refl
