@@ -11,9 +11,3 @@ write_connect-requires-in-Some-clause-flash_short c = sound-short _ (flash-sound
 
 pub write_connect-requires-in-Some-clause-url_short : goal.write_connect-requires-in-Some-clause-url_short
 write_connect-requires-in-Some-clause-url_short c = sound-short _ (url-sound c.args.config.now c.requires.sound c.in-Some.is) c.as_slice.ensures
-
-pub returns-in-None : goal.returns-in-None
-returns-in-None c = rw (c.in-None.is, ← c.as_slice-flash.ensures) c.write_connect.ensures
-
-pub returns-in-Some : goal.returns-in-Some
-returns-in-Some c = rw (c.in-Some.is, ← c.as_slice-flash.ensures, ← c.as_slice.ensures) c.write_connect-in-Some.ensures

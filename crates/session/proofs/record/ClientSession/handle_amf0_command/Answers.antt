@@ -3,14 +3,6 @@
 use Rattle.session.proofs.MessageLaws.{raised-goes, command-is}
 use Rattle.session.proofs.record.ClientSession.handle_amf0_command.Goals as goal
 
-pub returns-in-Result : goal.returns-in-Result
-returns-in-Result c =
-    command-is _ _ c.args.command c.in-Result.is (c.handle_success_result.ensures c.args.body.now)
-
-pub returns-in-Error : goal.returns-in-Error
-returns-in-Error c =
-    command-is _ _ c.args.command c.in-Error.is (c.handle_failed_result.ensures c.args.clock c.args.out.now)
-
 pub returns-in-OnStatus : goal.returns-in-OnStatus
 returns-in-OnStatus c =
     command-is _ _ c.args.command c.in-OnStatus.is (c.handle_on_status_command.ensures c.args.clock c.args.out.now)
