@@ -1,14 +1,13 @@
 -- What the definitions mean: document 01's case, with lines of the other verbs and lines that can't be read.
 -- Assumes nothing.
 use Rattle.std.specs.Prelude.{Some, None, Ok, Err}
-use Rattle.std.proofs.Common.{◌≡◌, refl, ℕ, true, false, [], ◌∷◌, map, Some, None, Ok, Err}
+use Rattle.std.proofs.Common.{◌≡◌, refl, true, false, [], ◌∷◌, map, Some, None, Ok, Err}
 use Prim.Native.String.{String}
 use Rattle.std.specs.Float.{binary32}
 use Rattle.std.specs.Float.Ieee.{of_bits}
 use Rattle.octets.specs.Compare.{ascii, same}
 use Rattle.messages.specs.declared.publish_request_type.PublishRequestType.TheVariants.{Live}
 use Rattle.script.specs.declared.asked.Line.TheVariants as lines
-use Rattle.octets.specs.declared.span.Span.{Span}
 use Rattle.script.specs.declared.reasons.Why.TheVariants as why
 use Rattle.script.specs.Hex.{is_hex, is_digit, pairs, pair_value}
 use Rattle.script.specs.Decimal.{decimal_from, decimal_of}

@@ -7,8 +7,7 @@ use Prim.Native.Nat.{ℕ}
 use native.Mathlib.Omega.{arith}
 use borrow.Author.Tests.{eq-eqb, ne_eqb}
 use lib.Dec.{eqb}
-use lib.ListN.{length, take, drop, length-drop}
-use lib.Seq.{take_all}
+use lib.ListN.{length, take, drop}
 use lib.Pointwise.{pointwise}
 use Rattle.std.proofs.Common.{drop_of_length-le}
 use Rattle.std.specs.Prelude.{Option, Some, None, Ok, Err}
@@ -29,12 +28,12 @@ use Rattle.script.specs.declared.reasons.Why.{Why}
 use Rattle.script.specs.Hex.{is_hex, pairs, unhex_of, unhex_into}
 use Rattle.script.specs.Fields.{Field, fields_at}
 use Rattle.script.specs.Lines.{word_of, rest, on}
-use Rattle.script.specs.Metadata.{begins, field_kind, rate_of, check_as, check_fields, value_in, last_value}
+use Rattle.script.specs.Metadata.{begins, rate_of, check_field, check_fields, value_in, last_value}
 use Rattle.script.proofs.HexLaws.{length_pairs, has_room}
 use Rattle.script.proofs.ReadLaws.{Starts, starts}
 
 -- a field further
-pub check_more : (fs : List Field) {b : List ℕ} → word_of fs ≡ Ok b → check_fields fs ≡ on (check_as b (field_kind b)) (λ u. check_fields (rest fs))
+pub check_more : (fs : List Field) {b : List ℕ} → word_of fs ≡ Ok b → check_fields fs ≡ on (check_field b) (λ u. check_fields (rest fs))
 unfolding word_of rest check_fields
 check_more [] e = absurd (let z : ◌≡◌ {A = ℕ} 0 1 = cc in omega arith)
 check_more (f ∷ fs) {b} e = let w : b ≡ f.bytes = cc in rw w
@@ -70,10 +69,6 @@ pointwise-same (x ∷ a) (y ∷ b) = by_cases (eqb x y) (λ t. rw t (pointwise-s
 pub begins_is : (name s : List ℕ) {t : Bool} → pointwise eqb (take (length name) s) name ≡ t → begins name s ≡ t
 unfolding begins
 begins_is name s e = sym (pointwise-same (take (length name) s) name) ∙ e
-
--- from n on, to the end
-pub drop_part : (s : List ℕ) (n : ℕ) → take (length s) (drop n s) ≡ drop n s
-drop_part s n = take_all (length s) (drop n s) (simp length-drop (omega arith))
 
 -- 8 digits are the 4 bytes of a pattern
 four : (d : List ℕ) → length d ≡ 8 → length (pairs d) ≡ 4

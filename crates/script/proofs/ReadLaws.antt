@@ -1,12 +1,13 @@
 -- What is read of the next field, once its end is known.
 -- Assumes nothing.
 use Rattle.std.proofs.Common.{◌≡◌, ℕ, ◌+◌, ◌<◌, ◌≤◌, List, [], ◌∷◌, length, take, drop, Ok, Err, refl, sym, subst, arith}
+use Rattle.std.specs.Option.{ok_or}
 use borrow.Author.Tests.{leb-true, leb-false}
 use lib.Dec.{leb}
 use Rattle.requests.proofs.BoolLaws.{by_cases}
 use Rattle.octets.specs.declared.span.Span.{Span}
 use Rattle.script.specs.declared.reasons.Why.{Why}
-use Rattle.script.specs.declared.reasons.Why.TheVariants.{Missing, Extra}
+use Rattle.script.specs.declared.reasons.Why.TheVariants.{Missing, Extra, Verb}
 use Rattle.script.specs.Fields.{until, Field, span_of, fields_at}
 use Rattle.script.specs.Lines.{word_of, text_of, number_of, rest, ended, on, then, settings_of, timestamp, verb_line, call_line, open_line, bare_line}
 use Rattle.script.specs.Verbs.{verb_of}
@@ -73,13 +74,14 @@ unfolding word_of call_line
 no_verb clock [] e = cc
 no_verb clock (f ∷ fs) e = cc
 
-first_verb : (clock : RtmpTimestamp) (next : ℕ) {b : List ℕ} (fs : List Field) → word_of fs ≡ Ok b → Starts next fs → verb_line clock (verb_of b) (next + length b) (rest fs) ≡ call_line clock fs
+first_verb : (clock : RtmpTimestamp) (next : ℕ) {b : List ℕ} (fs : List Field) → word_of fs ≡ Ok b → Starts next fs
+    → on (ok_or (verb_of b) Verb) (λ v. verb_line clock v (next + length b) (rest fs)) ≡ call_line clock fs
 unfolding word_of call_line rest
 first_verb clock next [] e n = absurd (let z : ◌≡◌ {A = ℕ} 0 1 = cc in omega arith)
 first_verb clock next {b} (f ∷ fs) e n = let w : b ≡ f.bytes = cc in rw (w, n)
 
 pub verb_is : (clock : RtmpTimestamp) (s : List ℕ) (next : ℕ) {b : List ℕ} → word_of (fields_at s next) ≡ Ok b
-    → verb_line clock (verb_of b) (next + length b) (rest (fields_at s next)) ≡ call_line clock (fields_at s next)
+    → on (ok_or (verb_of b) Verb) (λ v. verb_line clock v (next + length b) (rest (fields_at s next))) ≡ call_line clock (fields_at s next)
 verb_is clock s next e = first_verb clock next (fields_at s next) e (starts s next)
 
 pub no_settings : (fs : List Field) {w : Why} → text_of fs ≡ Err w → Ok OpenDefault ≡ open_line fs

@@ -4,5 +4,4 @@ pub mod Decimal
 pub mod Fields
 pub mod Verbs
 pub mod Lines
-pub mod Media
 pub mod Metadata

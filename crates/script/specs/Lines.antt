@@ -69,14 +69,15 @@ then read fs k = on (read fs) (λ x. k x (rest fs))
 abbrev pub closed : {A : Type 0} → List Field → A → Result A Why
 closed fs x = on (ended fs) (λ u. Ok x)
 
+-- one field, as the last
+abbrev pub last : {A : Type 0} → (List Field → Result A Why) → List Field → Result A Why
+last read fs = then read fs (λ x gs. closed gs x)
+
 abbrev pub timestamp : ℕ → RtmpTimestamp
 timestamp n = record { 0 = n }
 
 abbrev pub stream : ℕ → StreamNumber
 stream n = record { 0 = n }
-
-abbrev pub bytes_line : RtmpTimestamp → List Field → Result Line Why
-bytes_line clock fs = then number_of fs (λ count gs. closed gs (Bytes clock count))
 
 abbrev pub msg_line : RtmpTimestamp → List Field → Result Line Why
 msg_line clock fs =
@@ -84,18 +85,15 @@ msg_line clock fs =
     (then number_of gs (λ time hs. then number_of hs (λ x is. then hex_of is (λ body js.
     closed js (Msg clock kind (timestamp time) (stream x) body))))))
 
-abbrev pub connect_line : RtmpTimestamp → List Field → Result Line Why
-connect_line clock fs = then text_of fs (λ app gs. closed gs (Connect clock app))
-
-abbrev pub play_line : RtmpTimestamp → List Field → Result Line Why
-play_line clock fs = then text_of fs (λ key gs. closed gs (Play clock key))
-
 abbrev pub publish_line : RtmpTimestamp → List Field → Result Line Why
 publish_line clock fs = then text_of fs (λ key gs. then kind_of gs (λ t hs. closed hs (Publish clock key t)))
 
--- time, droppable flag and body of a picture or a sound
+-- time, droppable flag and body of a picture or a sound, as the last fields
+abbrev pub media_of : List Field → Result (RtmpTimestamp × Bool × Span) Why
+media_of fs = then number_of fs (λ time gs. then flag_of gs (λ droppable hs. then hex_of hs (λ body js. closed js (timestamp time, droppable, body))))
+
 abbrev pub media_line : (RtmpTimestamp → Bool → Span → Line) → List Field → Result Line Why
-media_line k fs = then number_of fs (λ time gs. then flag_of gs (λ droppable hs. then hex_of hs (λ body js. closed js (k (timestamp time) droppable body))))
+media_line k fs = on (media_of fs) (λ m. Ok (k m.0 m.1 m.2))
 
 abbrev pub settings : Span → ℕ → ℕ → ℕ → Option Span → Settings
 settings flash buffer window chunk url = record { flash = flash; buffer = buffer; window = window; chunk = chunk; url = url }
@@ -111,16 +109,12 @@ unfoldable pub open_line : List Field → Result Line Why
 open_line [] = Ok OpenDefault
 open_line (f ∷ fs) = on (settings_of (span_of f) fs) (λ s. Ok (Open s))
 
-abbrev pub space_line : List Field → Result Line Why
-space_line fs = then number_of fs (λ n gs. closed gs (Space n))
-
 -- the verb's field ends at `end`, and fs are those after it
 abbrev pub verb_line : RtmpTimestamp → Verb → ℕ → List Field → Result Line Why
-verb_line clock verbs.Unknown end fs = Err why.Verb
-verb_line clock verbs.Bytes end fs = bytes_line clock fs
+verb_line clock verbs.Bytes end fs = on (last number_of fs) (λ count. Ok (Bytes clock count))
 verb_line clock verbs.Msg end fs = msg_line clock fs
-verb_line clock verbs.Connect end fs = connect_line clock fs
-verb_line clock verbs.Play end fs = play_line clock fs
+verb_line clock verbs.Connect end fs = on (last text_of fs) (λ app. Ok (Connect clock app))
+verb_line clock verbs.Play end fs = on (last text_of fs) (λ key. Ok (Play clock key))
 verb_line clock verbs.Publish end fs = publish_line clock fs
 verb_line clock verbs.StopPlayback end fs = closed fs (StopPlayback clock)
 verb_line clock verbs.StopPublishing end fs = closed fs (StopPublishing clock)
@@ -129,11 +123,11 @@ verb_line clock verbs.Video end fs = media_line (Video clock) fs
 verb_line clock verbs.Audio end fs = media_line (Audio clock) fs
 verb_line clock verbs.Metadata end fs = Ok (Metadata clock end)
 verb_line clock verbs.Open end fs = open_line fs
-verb_line clock verbs.Space end fs = space_line fs
+verb_line clock verbs.Space end fs = on (last number_of fs) (λ n. Ok (Space n))
 
 unfoldable pub call_line : RtmpTimestamp → List Field → Result Line Why
 call_line clock [] = Err why.Missing
-call_line clock (f ∷ fs) = verb_line clock (verb_of f.bytes) (end_of f) fs
+call_line clock (f ∷ fs) = on (ok_or (verb_of f.bytes) why.Verb) (λ verb. verb_line clock verb (end_of f) fs)
 
 unfoldable pub bare_line : List ℕ → Result Line Why
 bare_line [] = Ok Empty

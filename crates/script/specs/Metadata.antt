@@ -1,7 +1,7 @@
 -- The fields of metadata in a line: NAME=VALUE, where a whole field is decimal, the frame rate the pattern of a single in 8 hexadecimal digits, stereo 0 or 1, and
 -- the encoder a text. Of equal names the later holds.
 -- Assumes nothing.
-use Rattle.std.specs.Prelude.{ℕ, ◌+◌, ◌-◌, Bool, cond, ◌&&◌, List, [], ◌∷◌, eqb, length, take, drop, Option, Some, None, option_and_then, Result, Ok, Err, Float}
+use Rattle.std.specs.Prelude.{ℕ, ◌+◌, ◌-◌, Bool, cond, ◌&&◌, List, [], ◌∷◌, eqb, length, take, drop, Option, Some, None, option_and_then, Result, Ok, Float}
 use Rattle.std.specs.Option.{ok_or, option_or}
 use Rattle.std.specs.Float.{binary32}
 use Rattle.std.specs.Float.Ieee.{of_bits}
@@ -12,7 +12,7 @@ use Rattle.messages.specs.declared.stream_metadata.StreamMetadata.{StreamMetadat
 use Rattle.script.specs.declared.reasons.Why.{Why}
 use Rattle.script.specs.declared.reasons.Why.TheVariants as why
 use Rattle.script.specs.declared.named.FieldKind.{FieldKind}
-use Rattle.script.specs.declared.named.FieldKind.TheVariants.{Whole, Rate, Flag, Text, Unknown}
+use Rattle.script.specs.declared.named.FieldKind.TheVariants.{Whole, Rate, Flag, Text}
 use Rattle.script.specs.Hex.{is_hex, pairs}
 use Rattle.script.specs.Decimal.{decimal_of}
 use Rattle.script.specs.Fields.{Field, fields_after, bare}
@@ -22,20 +22,20 @@ use Rattle.script.specs.Lines.{on, flag}
 unfoldable pub begins : List ℕ → List ℕ → Bool
 begins name s = same (take (length name) s) name
 
--- what a field's value has to be, and after how many bytes it begins
-abbrev pub field_kind : List ℕ → FieldKind
+-- what a field's value has to be, and after how many bytes it begins, where the field has one of the names
+abbrev pub field_kind : List ℕ → Option FieldKind
 field_kind s =
-    cond (begins (ascii "width=") s) (Whole 6)
-    (cond (begins (ascii "height=") s) (Whole 7)
-    (cond (begins (ascii "videocodecid=") s) (Whole 13)
-    (cond (begins (ascii "framerate=") s) (Rate 10)
-    (cond (begins (ascii "videodatarate=") s) (Whole 14)
-    (cond (begins (ascii "audiocodecid=") s) (Whole 13)
-    (cond (begins (ascii "audiodatarate=") s) (Whole 14)
-    (cond (begins (ascii "audiosamplerate=") s) (Whole 16)
-    (cond (begins (ascii "audiochannels=") s) (Whole 14)
-    (cond (begins (ascii "stereo=") s) (Flag 7)
-    (cond (begins (ascii "encoder=") s) Text Unknown))))))))))
+    cond (begins (ascii "width=") s) (Some (Whole 6))
+    (cond (begins (ascii "height=") s) (Some (Whole 7))
+    (cond (begins (ascii "videocodecid=") s) (Some (Whole 13))
+    (cond (begins (ascii "framerate=") s) (Some (Rate 10))
+    (cond (begins (ascii "videodatarate=") s) (Some (Whole 14))
+    (cond (begins (ascii "audiocodecid=") s) (Some (Whole 13))
+    (cond (begins (ascii "audiodatarate=") s) (Some (Whole 14))
+    (cond (begins (ascii "audiosamplerate=") s) (Some (Whole 16))
+    (cond (begins (ascii "audiochannels=") s) (Some (Whole 14))
+    (cond (begins (ascii "stereo=") s) (Some (Flag 7))
+    (cond (begins (ascii "encoder=") s) (Some Text) None))))))))))
 
 -- a single's pattern in 8 digits
 unfoldable pub rate_of : List ℕ → Option Float
@@ -50,12 +50,14 @@ check_as s (Whole n) = checked (decimal_of (drop n s)) why.Number
 check_as s (Rate n) = checked (rate_of (drop n s)) why.Hex
 check_as s (Flag n) = checked (option_and_then flag (decimal_of (drop n s))) why.Flag
 check_as s Text = Ok tt
-check_as s Unknown = Err why.Name
+
+abbrev pub check_field : List ℕ → Result (Unit {0}) Why
+check_field s = on (ok_or (field_kind s) why.Name) (check_as s)
 
 -- the first field with something wrong
 unfoldable pub check_fields : List Field → Result (Unit {0}) Why
 check_fields [] = Ok tt
-check_fields (f ∷ fs) = on (check_as f.bytes (field_kind f.bytes)) (λ u. check_fields fs)
+check_fields (f ∷ fs) = on (check_field f.bytes) (λ u. check_fields fs)
 
 -- the place of the value in a field that begins with the name
 abbrev pub value_in : ℕ → List ℕ → List ℕ → Option Span

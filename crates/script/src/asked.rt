@@ -4,7 +4,7 @@ use octets::Span;
 
 // What a session is opened with: the places of the flash version and of the tcUrl, None where none is configured; the length of the playback buffer
 // in milliseconds; the window and the chunk size.
-#[derive(Clone, Copy)]
+#[derive(Clone, Copy, Debug, PartialEq, Eq)]
 pub struct Settings {
     pub flash: Span,
     pub buffer: u32,
@@ -14,7 +14,7 @@ pub struct Settings {
 }
 
 // The first of a call's values is the clock. A Span is the place of a text or of a body's digits in the line.
-#[derive(Clone, Copy)]
+#[derive(Clone, Copy, Debug, PartialEq, Eq)]
 pub enum Line {
     Empty,
     // a count

@@ -1,7 +1,7 @@
 // A line's fields, taken one after the other.
 ghost use Rattle.std.specs.Prelude.{◌≡◌, ◌+◌, ◌-◌, ◌≤◌, Ok, Err, IfOk, MatchResult, length, drop};
 ghost use Rattle.script.specs.Fields.{until, bare, fields_at, fields_after, left};
-ghost use Rattle.script.specs.Lines.{rest, ended, word_of, text_of, number_of, hex_of, flag_of};
+ghost use Rattle.script.specs.Lines.{rest, ended, last, word_of, text_of, number_of, hex_of, flag_of};
 
 use crate::reasons::Why;
 use crate::{decimal, hex, named};
@@ -86,6 +86,24 @@ impl<'a> Fields<'a> {
     {
         let n = self.number()?;
         named::flag(n).ok_or(Why::Flag)
+    }
+
+    // A number, as the last field.
+    pub(crate) fn last_number(&mut self) -> Result<u32, Why>
+        ensures { result ≡ last number_of (left self.old) }
+    {
+        let n = self.number()?;
+        self.end()?;
+        Ok(n)
+    }
+
+    // The place of a text, as the last field.
+    pub(crate) fn last_text(&mut self) -> Result<Span, Why>
+        ensures { result ≡ last text_of (left self.old) }
+    {
+        let at = self.text()?;
+        self.end()?;
+        Ok(at)
     }
 
     // That no field is left.

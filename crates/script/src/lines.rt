@@ -1,8 +1,7 @@
 // A whole line: clock, verb, fields.
 ghost use Rattle.std.specs.Prelude.{◌≡◌, ◌-◌, ◌≤◌};
 ghost use Rattle.script.specs.Fields.{left};
-ghost use Rattle.script.specs.Lines.{bytes_line, msg_line, connect_line, play_line, publish_line, open_line, space_line, media_line, verb_line, call_line, bare_line, closed, line_of};
-ghost use Rattle.script.specs.declared.asked.Line.TheVariants.{Video, Audio};
+ghost use Rattle.script.specs.Lines.{msg_line, publish_line, verb_line, call_line, bare_line, closed, line_of};
 
 use crate::asked::Line;
 use crate::fields::{Fields, bare};
@@ -12,22 +11,6 @@ use crate::reasons::Why;
 use crate::verbs;
 use crate::verbs::Verb;
 use messages::{RtmpTimestamp, StreamNumber};
-
-fn bytes_line(fields: &mut Fields, clock: RtmpTimestamp) -> Result<Line, Why>
-    ensures { result ≡ bytes_line clock (left fields.old) }
-{
-    let count = fields.number()?;
-    fields.end()?;
-    Ok(Line::Bytes(clock, count))
-}
-
-fn space_line(fields: &mut Fields) -> Result<Line, Why>
-    ensures { result ≡ space_line (left fields.old) }
-{
-    let n = fields.number()?;
-    fields.end()?;
-    Ok(Line::Space(n))
-}
 
 fn msg_line(fields: &mut Fields, clock: RtmpTimestamp) -> Result<Line, Why>
     ensures { result ≡ msg_line clock (left fields.old) }
@@ -42,22 +25,6 @@ fn msg_line(fields: &mut Fields, clock: RtmpTimestamp) -> Result<Line, Why>
     Ok(Line::Msg(clock, type_id, time, stream, body))
 }
 
-fn connect_line(fields: &mut Fields, clock: RtmpTimestamp) -> Result<Line, Why>
-    ensures { result ≡ connect_line clock (left fields.old) }
-{
-    let app = fields.text()?;
-    fields.end()?;
-    Ok(Line::Connect(clock, app))
-}
-
-fn play_line(fields: &mut Fields, clock: RtmpTimestamp) -> Result<Line, Why>
-    ensures { result ≡ play_line clock (left fields.old) }
-{
-    let key = fields.text()?;
-    fields.end()?;
-    Ok(Line::Play(clock, key))
-}
-
 fn publish_line(fields: &mut Fields, clock: RtmpTimestamp) -> Result<Line, Why>
     ensures { result ≡ publish_line clock (left fields.old) }
 {
@@ -65,20 +32,6 @@ fn publish_line(fields: &mut Fields, clock: RtmpTimestamp) -> Result<Line, Why>
     let kind = verbs::publish_type(fields.word()?).ok_or(Why::Kind)?;
     fields.end()?;
     Ok(Line::Publish(clock, key, kind))
-}
-
-fn video_line(fields: &mut Fields, clock: RtmpTimestamp) -> Result<Line, Why>
-    ensures { result ≡ media_line (Video clock) (left fields.old) }
-{
-    let (time, droppable, body) = media(fields)?;
-    Ok(Line::Video(clock, time, droppable, body))
-}
-
-fn audio_line(fields: &mut Fields, clock: RtmpTimestamp) -> Result<Line, Why>
-    ensures { result ≡ media_line (Audio clock) (left fields.old) }
-{
-    let (time, droppable, body) = media(fields)?;
-    Ok(Line::Audio(clock, time, droppable, body))
 }
 
 // The answer, where no field is left.
@@ -95,20 +48,25 @@ fn verb_line(fields: &mut Fields, clock: RtmpTimestamp, verb: Verb) -> Result<Li
     ensures { result ≡ verb_line clock verb (fields.old.next - 1) (left fields.old) }
 {
     match verb {
-        Verb::Unknown => Err(Why::Verb),
-        Verb::Bytes => bytes_line(fields, clock),
+        Verb::Bytes => Ok(Line::Bytes(clock, fields.last_number()?)),
         Verb::Msg => msg_line(fields, clock),
-        Verb::Connect => connect_line(fields, clock),
-        Verb::Play => play_line(fields, clock),
+        Verb::Connect => Ok(Line::Connect(clock, fields.last_text()?)),
+        Verb::Play => Ok(Line::Play(clock, fields.last_text()?)),
         Verb::Publish => publish_line(fields, clock),
         Verb::StopPlayback => closed(fields, Line::StopPlayback(clock)),
         Verb::StopPublishing => closed(fields, Line::StopPublishing(clock)),
         Verb::Ping => closed(fields, Line::Ping(clock)),
-        Verb::Video => video_line(fields, clock),
-        Verb::Audio => audio_line(fields, clock),
+        Verb::Video => {
+            let (time, droppable, body) = media(fields)?;
+            Ok(Line::Video(clock, time, droppable, body))
+        }
+        Verb::Audio => {
+            let (time, droppable, body) = media(fields)?;
+            Ok(Line::Audio(clock, time, droppable, body))
+        }
         Verb::Metadata => Ok(Line::Metadata(clock, fields.next - 1)),
         Verb::Open => open_line(fields),
-        Verb::Space => space_line(fields),
+        Verb::Space => Ok(Line::Space(fields.last_number()?)),
     }
 }
 
@@ -116,7 +74,7 @@ fn verb_line(fields: &mut Fields, clock: RtmpTimestamp, verb: Verb) -> Result<Li
 fn call_line(fields: &mut Fields, clock: RtmpTimestamp) -> Result<Line, Why>
     ensures { result ≡ call_line clock (left fields.old) }
 {
-    let verb = verbs::verb_of(fields.word()?);
+    let verb = verbs::verb_of(fields.word()?).ok_or(Why::Verb)?;
     verb_line(fields, clock, verb)
 }
 

@@ -1,7 +1,7 @@
 // The fields of a picture or a sound.
 ghost use Rattle.std.specs.Prelude.{◌≡◌};
 ghost use Rattle.script.specs.Fields.{left};
-ghost use Rattle.script.specs.Media.{media_of};
+ghost use Rattle.script.specs.Lines.{media_of};
 
 use crate::fields::Fields;
 use crate::reasons::Why;

@@ -1,7 +1,7 @@
 // A field NAME=VALUE of metadata: what its value has to be, and whether it is that.
 ghost use Rattle.std.specs.Prelude.{◌≡◌};
 ghost use Rattle.script.specs.Lines.{flag};
-ghost use Rattle.script.specs.Metadata.{begins, field_kind, rate_of, check_as};
+ghost use Rattle.script.specs.Metadata.{begins, field_kind, rate_of, check_field};
 
 use crate::reasons::Why;
 use crate::{decimal, hex};
@@ -13,7 +13,6 @@ pub(crate) enum FieldKind {
     Rate(usize),
     Flag(usize),
     Text,
-    Unknown,
 }
 
 // Whether s begins with the name.
@@ -24,33 +23,33 @@ fn begins(s: &[u8], name: &[u8]) -> bool
     octets::part_is(s, 0, name.len(), name)
 }
 
-fn field_kind(s: &[u8]) -> FieldKind
+fn field_kind(s: &[u8]) -> Option<FieldKind>
     ensures { result ≡ field_kind s.now }
 {
     if begins(s, b"width=") {
-        FieldKind::Whole(6)
+        Some(FieldKind::Whole(6))
     } else if begins(s, b"height=") {
-        FieldKind::Whole(7)
+        Some(FieldKind::Whole(7))
     } else if begins(s, b"videocodecid=") {
-        FieldKind::Whole(13)
+        Some(FieldKind::Whole(13))
     } else if begins(s, b"framerate=") {
-        FieldKind::Rate(10)
+        Some(FieldKind::Rate(10))
     } else if begins(s, b"videodatarate=") {
-        FieldKind::Whole(14)
+        Some(FieldKind::Whole(14))
     } else if begins(s, b"audiocodecid=") {
-        FieldKind::Whole(13)
+        Some(FieldKind::Whole(13))
     } else if begins(s, b"audiodatarate=") {
-        FieldKind::Whole(14)
+        Some(FieldKind::Whole(14))
     } else if begins(s, b"audiosamplerate=") {
-        FieldKind::Whole(16)
+        Some(FieldKind::Whole(16))
     } else if begins(s, b"audiochannels=") {
-        FieldKind::Whole(14)
+        Some(FieldKind::Whole(14))
     } else if begins(s, b"stereo=") {
-        FieldKind::Flag(7)
+        Some(FieldKind::Flag(7))
     } else if begins(s, b"encoder=") {
-        FieldKind::Text
+        Some(FieldKind::Text)
     } else {
-        FieldKind::Unknown
+        None
     }
 }
 
@@ -80,9 +79,9 @@ pub(crate) fn flag(n: u32) -> Option<bool>
 }
 
 pub(crate) fn check_field(s: &[u8]) -> Result<(), Why>
-    ensures { result ≡ check_as s.now (field_kind s.now) }
+    ensures { result ≡ check_field s.now }
 {
-    match field_kind(s) {
+    match field_kind(s).ok_or(Why::Name)? {
         FieldKind::Whole(n) => {
             decimal::number(octets::part(s, n, s.len())).ok_or(Why::Number)?;
         }
@@ -94,7 +93,6 @@ pub(crate) fn check_field(s: &[u8]) -> Result<(), Why>
             value.and_then(flag).ok_or(Why::Flag)?;
         }
         FieldKind::Text => {}
-        FieldKind::Unknown => return Err(Why::Name),
     }
     Ok(())
 }

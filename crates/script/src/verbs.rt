@@ -6,7 +6,6 @@ use messages::PublishRequestType;
 
 #[derive(Clone, Copy, Debug, PartialEq, Eq)]
 pub(crate) enum Verb {
-    Unknown,
     Bytes,
     Msg,
     Connect,
@@ -23,37 +22,37 @@ pub(crate) enum Verb {
 }
 
 // Tests one after the other: a match on byte strings was tried, and its proof has a goal for each byte and doesn't close.
-pub(crate) fn verb_of(s: &[u8]) -> Verb
+pub(crate) fn verb_of(s: &[u8]) -> Option<Verb>
     ensures { result ≡ verb_of s.now }
 {
     if octets::same(s, b"bytes") {
-        Verb::Bytes
+        Some(Verb::Bytes)
     } else if octets::same(s, b"msg") {
-        Verb::Msg
+        Some(Verb::Msg)
     } else if octets::same(s, b"connect") {
-        Verb::Connect
+        Some(Verb::Connect)
     } else if octets::same(s, b"play") {
-        Verb::Play
+        Some(Verb::Play)
     } else if octets::same(s, b"publish") {
-        Verb::Publish
+        Some(Verb::Publish)
     } else if octets::same(s, b"stop_playback") {
-        Verb::StopPlayback
+        Some(Verb::StopPlayback)
     } else if octets::same(s, b"stop_publishing") {
-        Verb::StopPublishing
+        Some(Verb::StopPublishing)
     } else if octets::same(s, b"ping") {
-        Verb::Ping
+        Some(Verb::Ping)
     } else if octets::same(s, b"video") {
-        Verb::Video
+        Some(Verb::Video)
     } else if octets::same(s, b"audio") {
-        Verb::Audio
+        Some(Verb::Audio)
     } else if octets::same(s, b"metadata") {
-        Verb::Metadata
+        Some(Verb::Metadata)
     } else if octets::same(s, b"open") {
-        Verb::Open
+        Some(Verb::Open)
     } else if octets::same(s, b"space") {
-        Verb::Space
+        Some(Verb::Space)
     } else {
-        Verb::Unknown
+        None
     }
 }
 

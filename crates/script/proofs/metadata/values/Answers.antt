@@ -1,6 +1,5 @@
 -- `script::metadata::values` meets its contract: field by field.
 -- Assumes nothing.
-use Rattle.std.proofs.Common.{ap, ◌∙◌}
 use Rattle.script.specs.Metadata.{metadata_of}
 use Rattle.script.proofs.metadata.values.Goals as goal
 
