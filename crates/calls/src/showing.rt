@@ -2,9 +2,7 @@
 use case_lines::{Hex, OrWord};
 use messages::PublishRequestType;
 use requests::{OutstandingTransaction, Place, Text, TransactionPurpose};
-use session::{
-    ClientSession, ClientSessionError, ClientSessionResult, ClientState, Outcome, Packet,
-};
+use session::{ClientSession, ClientSessionError, ClientSessionResult, Outcome, Packet};
 use std::fmt;
 
 // A value of a crate below, to be printed.
@@ -15,36 +13,14 @@ pub struct Shown<'a, T>(pub &'a T);
 #[derive(Clone, Copy)]
 pub struct Settings<'a>(pub &'a ClientSession);
 
-fn stage(s: ClientState) -> u8 {
-    match s {
-        ClientState::Disconnected => 0,
-        ClientState::Connected => 1,
-        ClientState::PlayRequested => 2,
-        ClientState::Playing => 3,
-        ClientState::PublishRequested => 4,
-        ClientState::Publishing => 5,
-    }
-}
-
-// The number of document 01's table.
+// The number of document 01's table, and behind 2 the stage.
 impl fmt::Display for Shown<'_, ClientSessionError> {
     fn fmt<W: fmt::Write>(&self, f: &mut fmt::Formatter<W>) -> fmt::Result {
-        let n = match self.0 {
-            ClientSessionError::CantConnectWhileAlreadyConnected => 1,
-            ClientSessionError::SessionInInvalidState(s) => return write!(f, "2 {}", stage(*s)),
-            ClientSessionError::NoKnownActiveStreamIdWhenRequired => 3,
-            ClientSessionError::CreateStreamFailed => 4,
-            ClientSessionError::CreateStreamResponseHadNoStreamNumber => 5,
-            ClientSessionError::InvalidOnStatusArguments => 6,
-            ClientSessionError::InvalidMaxChunkSize => 7,
-            ClientSessionError::MalformedBody => 8,
-            ClientSessionError::Length => 9,
-            ClientSessionError::EightOpen => 10,
-            ClientSessionError::Spent => 11,
-            ClientSessionError::Space => 12,
-            ClientSessionError::NotASession => 13,
-        };
-        write!(f, "{n}")
+        let n = u8::from(*self.0);
+        match self.0 {
+            ClientSessionError::SessionInInvalidState(s) => write!(f, "{n} {}", u8::from(*s)),
+            _ => write!(f, "{n}"),
+        }
     }
 }
 
@@ -163,7 +139,7 @@ impl fmt::Display for Shown<'_, ClientSession> {
         write!(
             f,
             "{} {} {}\t{}\t{} {} {} {}",
-            stage(session.progress.state),
+            u8::from(session.progress.state),
             OrWord(session.progress.active.map(|stream| stream.0), "-"),
             session.requests.next,
             Shown(&session.requests.places),

@@ -3,7 +3,6 @@
 
 mod hex;
 mod line;
-mod numbers_of;
 mod output;
 mod reasons;
 mod results;

@@ -1,10 +1,10 @@
 // Result lines. Each is put together in a text of its own, and written where all of it fits.
 ghost use Rattle.std.specs.Prelude.{◌≡◌, ◌+◌, ◌≤◌, ◌++◌, length};
+ghost use Rattle.session.specs.Numbers.{event_place};
 ghost use Rattle.script_results.specs.Output.{WrittenAt};
 ghost use Rattle.script_results.specs.Results.{head_text, none_line, number_line, event_head, open_head, unhandled_line, refused_line, flags_text, numbers_text, packet_head};
 
 use crate::line::Line;
-use crate::numbers_of::{event_place, refusal_number, stage_number};
 use octets::NoSpace;
 use session::{ClientSessionError, ClientSessionEvent, ClientState, Packet};
 
@@ -15,7 +15,7 @@ fn head(line: u64, stage: ClientState) -> Line
 {
     let mut text = Line::new();
     text.put_field(line, 9);
-    text.put_field(stage_number(stage) as u64, 9);
+    text.put_field(u8::from(stage) as u64, 9);
     text
 }
 
@@ -42,6 +42,26 @@ fn numbered(line: u64, stage: ClientState, word: &[u8], n: u8) -> Line
     text.put_bytes(word);
     text.put_field(n as u64, 10);
     text
+}
+
+// By which number a result line names an event: its place in events.rs. That is of these lines, which tell an event's values elsewhere, so it is no From.
+fn event_place(event: ClientSessionEvent) -> u8
+    ensures { result ≡ event_place event }
+{
+    match event {
+        ClientSessionEvent::ConnectionRequestAccepted => 0,
+        ClientSessionEvent::ConnectionRequestRejected(_) => 1,
+        ClientSessionEvent::PlaybackRequestAccepted => 2,
+        ClientSessionEvent::PublishRequestAccepted => 3,
+        ClientSessionEvent::StreamMetadataReceived(_) => 4,
+        ClientSessionEvent::VideoDataReceived(_) => 5,
+        ClientSessionEvent::AudioDataReceived(_) => 6,
+        ClientSessionEvent::UnhandleableAmf0Command { .. } => 7,
+        ClientSessionEvent::UnknownTransactionResultReceived { .. } => 8,
+        ClientSessionEvent::UnhandleableOnStatusCode(_) => 9,
+        ClientSessionEvent::AcknowledgementReceived(_) => 10,
+        ClientSessionEvent::PingResponseReceived(_) => 11,
+    }
 }
 
 // An event, up to its values: these, where they are told, and the line's end come after.
@@ -95,7 +115,7 @@ pub fn write_refused(
 ) -> Result<usize, NoSpace>
     ensures { WrittenAt out.old at (refused_line line stage error) out.new result }
 {
-    numbered(line, stage, b"refused\t", refusal_number(error)).write(out, at)
+    numbered(line, stage, b"refused\t", u8::from(error)).write(out, at)
 }
 
 // Type, time and stream.

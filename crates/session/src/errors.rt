@@ -1,6 +1,7 @@
-// Why a call was turned away. specs/Numbers.antt gives each the number of document 01's table.
+// Why a call was turned away, and its number in document 01's table.
 ghost use Rattle.std.specs.Prelude.{◌≡◌};
 ghost use Rattle.session.specs.Comes.{take_refusal};
+ghost use Rattle.session.specs.Numbers.{refusal_number};
 ghost use Rattle.session.specs.declared.errors.ClientSessionError.TheVariants.{MalformedBody as malformed_body, Space as space};
 
 use crate::state::ClientState;
@@ -36,6 +37,29 @@ pub enum ClientSessionError {
     Space,
     // 13
     NotASession,
+}
+
+// The number in the table of turned-away calls.
+impl From<ClientSessionError> for u8 {
+    ghost from_gives = { λ e n. n ≡ refusal_number e };
+
+    fn from(error: ClientSessionError) -> u8 {
+        match error {
+            ClientSessionError::CantConnectWhileAlreadyConnected => 1,
+            ClientSessionError::SessionInInvalidState(_) => 2,
+            ClientSessionError::NoKnownActiveStreamIdWhenRequired => 3,
+            ClientSessionError::CreateStreamFailed => 4,
+            ClientSessionError::CreateStreamResponseHadNoStreamNumber => 5,
+            ClientSessionError::InvalidOnStatusArguments => 6,
+            ClientSessionError::InvalidMaxChunkSize => 7,
+            ClientSessionError::MalformedBody => 8,
+            ClientSessionError::Length => 9,
+            ClientSessionError::EightOpen => 10,
+            ClientSessionError::Spent => 11,
+            ClientSessionError::Space => 12,
+            ClientSessionError::NotASession => 13,
+        }
+    }
 }
 
 impl From<Malformed> for ClientSessionError {

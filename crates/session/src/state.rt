@@ -1,5 +1,6 @@
-// Stage (document 01), and the tests of it.
+// Stage (document 01), its number, and the tests of it.
 ghost use Rattle.std.specs.Prelude.{◌≡◌};
+ghost use Rattle.session.specs.Numbers.{stage_number};
 ghost use Rattle.session.specs.Plan.{is_disconnected, is_connected, is_play, is_publish, is_publishing};
 ghost use Rattle.session.specs.Message.{is_play_requested, is_publish_requested};
 
@@ -14,6 +15,15 @@ pub enum ClientState {
     // publishing was requested, and its Start notice hasn't come
     PublishRequested,
     Publishing,
+}
+
+// The number of a stage: its place in the mission's order.
+impl From<ClientState> for u8 {
+    ghost from_gives = { λ s n. n ≡ stage_number s };
+
+    fn from(state: ClientState) -> u8 {
+        state as u8
+    }
 }
 
 impl ClientState {

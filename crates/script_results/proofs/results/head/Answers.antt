@@ -5,4 +5,4 @@ use Rattle.script_results.proofs.results.head.Goals as goal
 
 pub returns-clause-text : goal.returns-clause-text
 unfolding head_text
-returns-clause-text c = rw (c.put_field-2.ensures.put, c.put_field.ensures.put, c.new-text.ensures, c.stage_number.ensures)
+returns-clause-text c = rw (c.put_field-2.ensures.put, c.put_field.ensures.put, c.new-text.ensures, c.from.ensures)
