@@ -5,7 +5,7 @@ ghost use Rattle.script_run.specs.Asked.{ran, answered};
 use script::Why;
 use session::{Called, ClientSession, ClientSessionError, Outcome};
 
-#[derive(Clone, Copy)]
+#[derive(Clone, Copy, Debug, PartialEq)]
 pub enum Came {
     // the line is empty
     Passed,
@@ -16,7 +16,7 @@ pub enum Came {
 }
 
 // What a line came to, or why it can't be read, and the session after it.
-#[derive(Clone, Copy)]
+#[derive(Clone, Copy, Debug, PartialEq)]
 pub struct Ran {
     pub came: Result<Came, Why>,
     pub session: ClientSession,
