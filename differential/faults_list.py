@@ -257,7 +257,7 @@ CARD = [
     ('window and chunk size of an opening are exchanged', 'script/src/opening.rt', 'let window = fields.number()?;\n    let chunk = fields.number()?;',
      'let chunk = fields.number()?;\n    let window = fields.number()?;'),
     ('a carriage return stays', 'script/src/fields.rt', 'strip_suffix(b"\\r")', 'strip_suffix(b"\\n")'),
-    ('stop_playback stops publishing', 'script/src/verbs.rt', 'b"stop_playback") {\n        Some(Verb::StopPlayback)\n', 'b"stop_playback") {\n        Some(Verb::StopPublishing)\n'),
+    ('stop_playback stops publishing', 'script/src/verbs.rt', '(b"stop_playback", Verb::StopPlayback)', '(b"stop_playback", Verb::StopPublishing)'),
     ('an opening that is refused replaces the session',
      'script_run/src/opening.rt', 'apart(session, Ok(Came::Answer(called.outcome)))', 'apart(called.session, Ok(Came::Answer(called.outcome)))'),
     ('clock and time of a picture are exchanged',

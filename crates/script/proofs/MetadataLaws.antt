@@ -3,11 +3,12 @@
 use mathlib.Core.Path.{◌≡◌, refl, sym, ◌∙◌}
 use mathlib.Core.Bool.{Bool, true, false, and-false}
 use mathlib.Core.List.{List, [], ◌∷◌, append-nil}
-use Prim.Native.Nat.{ℕ}
+use Prim.Native.Nat.{ℕ, ◌-◌}
 use native.Mathlib.Omega.{arith}
 use borrow.Author.Tests.{eq-eqb, ne_eqb}
 use lib.Dec.{eqb}
-use lib.ListN.{length, take, drop}
+use lib.ListN.{length, take, drop, length-drop}
+use lib.Seq.{take_all}
 use lib.Pointwise.{pointwise}
 use Rattle.std.proofs.Common.{drop_of_length-le}
 use Rattle.std.specs.Prelude.{Option, Some, None, Ok, Err}
@@ -69,6 +70,10 @@ pointwise-same (x ∷ a) (y ∷ b) = by_cases (eqb x y) (λ t. rw t (pointwise-s
 pub begins_is : (name s : List ℕ) {t : Bool} → pointwise eqb (take (length name) s) name ≡ t → begins name s ≡ t
 unfolding begins
 begins_is name s e = sym (pointwise-same (take (length name) s) name) ∙ e
+
+-- from n on, to the end
+pub to_end : (s : List ℕ) (n : ℕ) → take (length s - n) (drop n s) ≡ drop n s
+to_end s n = take_all (length s - n) (drop n s) (simp length-drop (omega arith))
 
 -- 8 digits are the 4 bytes of a pattern
 four : (d : List ℕ) → length d ≡ 8 → length (pairs d) ≡ 4

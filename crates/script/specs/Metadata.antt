@@ -2,7 +2,8 @@
 -- the encoder a text. Of equal names the later holds.
 -- Assumes nothing.
 use Rattle.std.specs.Prelude.{ℕ, ◌+◌, ◌-◌, Bool, cond, ◌&&◌, List, [], ◌∷◌, eqb, length, take, drop, Option, Some, None, option_and_then, Result, Ok, Float}
-use Rattle.std.specs.Option.{ok_or, option_or}
+use Rattle.std.specs.List.{find}
+use Rattle.std.specs.Option.{ok_or, option_or, option_map}
 use Rattle.std.specs.Float.{binary32}
 use Rattle.std.specs.Float.Ieee.{of_bits}
 use Rattle.octets.specs.BigEndian.{be}
@@ -22,20 +23,16 @@ use Rattle.script.specs.Lines.{on, flag}
 unfoldable pub begins : List ℕ → List ℕ → Bool
 begins name s = same (take (length name) s) name
 
--- what a field's value has to be, and after how many bytes it begins, where the field has one of the names
-abbrev pub field_kind : List ℕ → Option FieldKind
-field_kind s =
-    cond (begins (ascii "width=") s) (Some (Whole 6))
-    (cond (begins (ascii "height=") s) (Some (Whole 7))
-    (cond (begins (ascii "videocodecid=") s) (Some (Whole 13))
-    (cond (begins (ascii "framerate=") s) (Some (Rate 10))
-    (cond (begins (ascii "videodatarate=") s) (Some (Whole 14))
-    (cond (begins (ascii "audiocodecid=") s) (Some (Whole 13))
-    (cond (begins (ascii "audiodatarate=") s) (Some (Whole 14))
-    (cond (begins (ascii "audiosamplerate=") s) (Some (Whole 16))
-    (cond (begins (ascii "audiochannels=") s) (Some (Whole 14))
-    (cond (begins (ascii "stereo=") s) (Some (Flag 7))
-    (cond (begins (ascii "encoder=") s) (Some Text) None))))))))))
+-- what a field's value has to be, by the field's name
+abbrev pub kinds : List (List ℕ × FieldKind)
+kinds =
+    (ascii "width=", Whole) ∷ (ascii "height=", Whole) ∷ (ascii "videocodecid=", Whole) ∷ (ascii "framerate=", Rate)
+    ∷ (ascii "videodatarate=", Whole) ∷ (ascii "audiocodecid=", Whole) ∷ (ascii "audiodatarate=", Whole)
+    ∷ (ascii "audiosamplerate=", Whole) ∷ (ascii "audiochannels=", Whole) ∷ (ascii "stereo=", Flag) ∷ (ascii "encoder=", Text) ∷ []
+
+-- by the first of the names with which the field begins; and the value, which is what comes after it
+abbrev pub field_kind : List ℕ → Option (FieldKind × List ℕ)
+field_kind s = option_map (λ row. (row.1, drop (length row.0) s)) (find (λ row. begins row.0 s) kinds)
 
 -- a single's pattern in 8 digits
 unfoldable pub rate_of : List ℕ → Option Float
@@ -45,14 +42,14 @@ rate_of d = cond (eqb (length d) 8 && is_hex d) (Some (of_bits binary32 (be (pai
 abbrev pub checked : {A : Type 0} → Option A → Why → Result (Unit {0}) Why
 checked value w = on (ok_or value w) (λ x. Ok tt)
 
-abbrev pub check_as : List ℕ → FieldKind → Result (Unit {0}) Why
-check_as s (Whole n) = checked (decimal_of (drop n s)) why.Number
-check_as s (Rate n) = checked (rate_of (drop n s)) why.Hex
-check_as s (Flag n) = checked (option_and_then flag (decimal_of (drop n s))) why.Flag
-check_as s Text = Ok tt
+abbrev pub check_as : FieldKind → List ℕ → Result (Unit {0}) Why
+check_as Whole value = checked (decimal_of value) why.Number
+check_as Rate value = checked (rate_of value) why.Hex
+check_as Flag value = checked (option_and_then flag (decimal_of value)) why.Flag
+check_as Text value = Ok tt
 
 abbrev pub check_field : List ℕ → Result (Unit {0}) Why
-check_field s = on (ok_or (field_kind s) why.Name) (check_as s)
+check_field s = on (ok_or (field_kind s) why.Name) (λ f. check_as f.0 f.1)
 
 -- the first field with something wrong
 unfoldable pub check_fields : List Field → Result (Unit {0}) Why

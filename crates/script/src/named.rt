@@ -1,56 +1,41 @@
 // A field NAME=VALUE of metadata: what its value has to be, and whether it is that.
-ghost use Rattle.std.specs.Prelude.{◌≡◌};
+ghost use Rattle.std.specs.Prelude.{◌≡◌, Some, None, MatchOption};
 ghost use Rattle.script.specs.Lines.{flag};
-ghost use Rattle.script.specs.Metadata.{begins, field_kind, rate_of, check_field};
+ghost use Rattle.script.specs.Metadata.{field_kind, rate_of, check_field};
 
 use crate::reasons::Why;
 use crate::{decimal, hex};
 
-// By the kind of its value, which begins after that many bytes. An encoder may be any text.
+// What a field's value has to be. An encoder may be any text.
 #[derive(Clone, Copy, Debug, PartialEq, Eq)]
 pub(crate) enum FieldKind {
-    Whole(usize),
-    Rate(usize),
-    Flag(usize),
+    Whole,
+    Rate,
+    Flag,
     Text,
 }
 
-// Whether s begins with the name.
-#[tactic(auto, unfolding(crate::specs::Metadata::begins))]
-fn begins(s: &[u8], name: &[u8]) -> bool
-    ensures { result ≡ begins name.now s.now }
-{
-    octets::part_is(s, 0, name.len(), name)
-}
+// The names, each with its equals sign.
+const KINDS: [(&[u8], FieldKind); 11] = [
+    (b"width=", FieldKind::Whole),
+    (b"height=", FieldKind::Whole),
+    (b"videocodecid=", FieldKind::Whole),
+    (b"framerate=", FieldKind::Rate),
+    (b"videodatarate=", FieldKind::Whole),
+    (b"audiocodecid=", FieldKind::Whole),
+    (b"audiodatarate=", FieldKind::Whole),
+    (b"audiosamplerate=", FieldKind::Whole),
+    (b"audiochannels=", FieldKind::Whole),
+    (b"stereo=", FieldKind::Flag),
+    (b"encoder=", FieldKind::Text),
+];
 
-fn field_kind(s: &[u8]) -> Option<FieldKind>
-    ensures { result ≡ field_kind s.now }
+// What the value of the field s has to be, and the value.
+fn field_kind(s: &[u8]) -> Option<(FieldKind, &[u8])>
+    ensures { MatchOption result (field_kind s.now ≡ None) (λ f. field_kind s.now ≡ Some (f.0, f.1.now)) }
 {
-    if begins(s, b"width=") {
-        Some(FieldKind::Whole(6))
-    } else if begins(s, b"height=") {
-        Some(FieldKind::Whole(7))
-    } else if begins(s, b"videocodecid=") {
-        Some(FieldKind::Whole(13))
-    } else if begins(s, b"framerate=") {
-        Some(FieldKind::Rate(10))
-    } else if begins(s, b"videodatarate=") {
-        Some(FieldKind::Whole(14))
-    } else if begins(s, b"audiocodecid=") {
-        Some(FieldKind::Whole(13))
-    } else if begins(s, b"audiodatarate=") {
-        Some(FieldKind::Whole(14))
-    } else if begins(s, b"audiosamplerate=") {
-        Some(FieldKind::Whole(16))
-    } else if begins(s, b"audiochannels=") {
-        Some(FieldKind::Whole(14))
-    } else if begins(s, b"stereo=") {
-        Some(FieldKind::Flag(7))
-    } else if begins(s, b"encoder=") {
-        Some(FieldKind::Text)
-    } else {
-        None
-    }
+    let (name, kind) = KINDS.iter().find(|(name, _)| s.starts_with(*name))?;
+    Some((*kind, &s[name.len()..]))
 }
 
 // The single whose pattern the 8 digits write.
@@ -81,16 +66,16 @@ pub(crate) fn flag(n: u32) -> Option<bool>
 pub(crate) fn check_field(s: &[u8]) -> Result<(), Why>
     ensures { result ≡ check_field s.now }
 {
-    match field_kind(s).ok_or(Why::Name)? {
-        FieldKind::Whole(n) => {
-            decimal::number(octets::part(s, n, s.len())).ok_or(Why::Number)?;
+    let (kind, value) = field_kind(s).ok_or(Why::Name)?;
+    match kind {
+        FieldKind::Whole => {
+            decimal::number(value).ok_or(Why::Number)?;
         }
-        FieldKind::Rate(n) => {
-            rate_of(octets::part(s, n, s.len())).ok_or(Why::Hex)?;
+        FieldKind::Rate => {
+            rate_of(value).ok_or(Why::Hex)?;
         }
-        FieldKind::Flag(n) => {
-            let value = decimal::number(octets::part(s, n, s.len()));
-            value.and_then(flag).ok_or(Why::Flag)?;
+        FieldKind::Flag => {
+            decimal::number(value).and_then(flag).ok_or(Why::Flag)?;
         }
         FieldKind::Text => {}
     }

@@ -21,39 +21,27 @@ pub(crate) enum Verb {
     Space,
 }
 
-// Tests one after the other: a match on byte strings was tried, and its proof has a goal for each byte and doesn't close.
+const VERBS: [(&[u8], Verb); 13] = [
+    (b"bytes", Verb::Bytes),
+    (b"msg", Verb::Msg),
+    (b"connect", Verb::Connect),
+    (b"play", Verb::Play),
+    (b"publish", Verb::Publish),
+    (b"stop_playback", Verb::StopPlayback),
+    (b"stop_publishing", Verb::StopPublishing),
+    (b"ping", Verb::Ping),
+    (b"video", Verb::Video),
+    (b"audio", Verb::Audio),
+    (b"metadata", Verb::Metadata),
+    (b"open", Verb::Open),
+    (b"space", Verb::Space),
+];
+
 pub(crate) fn verb_of(s: &[u8]) -> Option<Verb>
     ensures { result ≡ verb_of s.now }
 {
-    if octets::same(s, b"bytes") {
-        Some(Verb::Bytes)
-    } else if octets::same(s, b"msg") {
-        Some(Verb::Msg)
-    } else if octets::same(s, b"connect") {
-        Some(Verb::Connect)
-    } else if octets::same(s, b"play") {
-        Some(Verb::Play)
-    } else if octets::same(s, b"publish") {
-        Some(Verb::Publish)
-    } else if octets::same(s, b"stop_playback") {
-        Some(Verb::StopPlayback)
-    } else if octets::same(s, b"stop_publishing") {
-        Some(Verb::StopPublishing)
-    } else if octets::same(s, b"ping") {
-        Some(Verb::Ping)
-    } else if octets::same(s, b"video") {
-        Some(Verb::Video)
-    } else if octets::same(s, b"audio") {
-        Some(Verb::Audio)
-    } else if octets::same(s, b"metadata") {
-        Some(Verb::Metadata)
-    } else if octets::same(s, b"open") {
-        Some(Verb::Open)
-    } else if octets::same(s, b"space") {
-        Some(Verb::Space)
-    } else {
-        None
-    }
+    let (_, verb) = VERBS.iter().find(|(word, _)| octets::same(s, *word))?;
+    Some(*verb)
 }
 
 pub(crate) fn publish_type(s: &[u8]) -> Option<PublishRequestType>
