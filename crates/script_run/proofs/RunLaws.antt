@@ -1,101 +1,21 @@
--- From what the session's calls, the decoder and the readers answered to what a line comes to. Each law is stated once, for every line.
+-- From what the decoder answered to the bytes that a body's digits stand for.
 -- Assumes nothing.
 use Prim.Native.Nat.{ℕ}
-use mathlib.Core.Path.{◌≡◌, refl, sym, ap, ◌∙◌}
-use mathlib.Core.Bool.{Bool, true, false, cond}
+use mathlib.Core.Path.{◌≡◌, ap, ◌∙◌}
 use mathlib.Core.List.{List}
 use lib.Dec.{ltb}
 use lib.ListN.{length, drop}
 use lib.Seq.{take-append_seam}
 use Rattle.octets.specs.Compare.{part}
 use Rattle.octets.specs.Output.{left}
-use Rattle.std.specs.Prelude.{Result, Ok, Err, is_err}
-use Rattle.messages.specs.declared.ids.RtmpTimestamp.{RtmpTimestamp}
-use Rattle.messages.specs.declared.stream_metadata.StreamMetadata.{StreamMetadata}
+use Rattle.std.specs.Prelude.{Result, Ok, Err}
 use Rattle.requests.proofs.BoolLaws.{by_cases}
-use Rattle.session.specs.Calls.{Call, metadata}
-use Rattle.session.specs.Contract.{Does}
-use Rattle.session.specs.Record.{open_of}
-use Rattle.session.specs.declared.config.ClientSessionConfig.{ClientSessionConfig}
-use Rattle.session.specs.declared.record.Called.{Called}
-use Rattle.session.specs.declared.record.ClientSession.{ClientSession}
 use Rattle.script.specs.Hex.{is_hex, pairs, unhex_of, unhex_into, why_of}
-use Rattle.script.specs.declared.asked.Line.{Line}
 use Rattle.script.specs.declared.hex.UnhexError.{UnhexError}
 use Rattle.script.specs.declared.reasons.Why.{Why}
-use Rattle.script_run.specs.Asked.{passes, unread, lends, calls, opens, body_of, with_body, with_metadata, asked, asks, ran, answered, opened, after, Runs}
-use Rattle.script_run.specs.declared.told.Came.TheVariants.{Passed, Space, Answer}
-use Rattle.script_run.specs.declared.told.Ran.{Ran}
+use Rattle.script_run.specs.Asked.{body_of}
 
-module _ {s : ClientSession} {old : List ℕ} {r : Ran} where
-  -- ---- a line that makes no call
-  pub apart-passes : r ≡ ran (Ok Passed) s → Runs s old passes r old
-  unfolding after
-  apart-passes q = rw q (record { tells = refl; hands_back = refl; leaves = refl })
-
-  pub apart-unread : {w : Why} → r ≡ ran (Err w) s → Runs s old (unread w) r old
-  unfolding after
-  apart-unread q = rw q (record { tells = refl; hands_back = refl; leaves = refl })
-
-  pub apart-lends : {n : ℕ} → r ≡ ran (Ok (Space n)) s → Runs s old (lends n) r old
-  unfolding after
-  apart-lends q = rw q (record { tells = refl; hands_back = refl; leaves = refl })
-
-  -- ---- a new session, whatever settings the line's are
-  pub opens_as : {f g : ClientSessionConfig} → f ≡ g → r ≡ opened s (open_of f) → Runs s old (opens g) r old
-  unfolding after
-  opens_as e q = rw (← e, q) (record { tells = refl; hands_back = refl; leaves = refl })
-
-  module _ {exit : List ℕ} where
-    -- ---- a call
-    pub told_does : {clock : RtmpTimestamp} {k : Call} {q : Called} → Does s clock k old q exit → r ≡ answered q → Runs s old (calls clock k) r exit
-    unfolding after
-    told_does d e = rw e (record { tells = ap (λ o. Ok (Answer o)) d.answers; hands_back = d.hands_back; leaves = d.leaves })
-
-    -- with a text t that is u
-    pub told_text : {clock : RtmpTimestamp} (k : List ℕ → Call) {t u : List ℕ} {q : Called}
-        → t ≡ u → Does s clock (k t) old q exit → r ≡ answered q → Runs s old (calls clock (k u)) r exit
-    told_text k e d q = rw (← e) (told_does d q)
-
-    -- with the body that the digits stand for
-    pub told-body : {clock : RtmpTimestamp} (k : List ℕ → Call) {b : Result (List ℕ) Why} {t : List ℕ} {q : Called}
-        → b ≡ Ok t → Does s clock (k t) old q exit → r ≡ answered q → Runs s old (with_body clock k b) r exit
-    unfolding with_body
-    told-body k e d q = rw e (told_does d q)
-
-    -- with the fields f that were read
-    pub told-fields : {clock : RtmpTimestamp} {t : List ℕ} {m : Result StreamMetadata Why} {f : StreamMetadata} {q : Called}
-        → m ≡ Ok f → Does s clock (metadata f t) old q exit → r ≡ answered q → Runs s old (with_metadata clock t m) r exit
-    unfolding with_metadata
-    told-fields e d q = rw e (told_does d q)
-
-    -- ---- by how the line was read
-    pub line-is : (space : ℕ) (t : List ℕ) {l : Result Line Why} {v : Line} → l ≡ Ok v → Runs s old (asked space t v) r exit → Runs s old (asks space t l) r exit
-    line-is space t e h = rw e h
-
-  pub no_fields : (clock : RtmpTimestamp) (t : List ℕ) {m : Result StreamMetadata Why} {w : Why}
-      → m ≡ Err w → r ≡ ran (Err w) s → Runs s old (with_metadata clock t m) r old
-  unfolding with_metadata
-  no_fields clock t e q = rw e (apart-unread q)
-
-  pub no_body : (clock : RtmpTimestamp) (k : List ℕ → Call) {b : Result (List ℕ) Why} {w : Why}
-      → b ≡ Err w → r ≡ ran (Err w) s → Runs s old (with_body clock k b) r old
-  unfolding with_body
-  no_body clock k e q = rw e (apart-unread q)
-
--- ---- opening answered q, which is g
-module _ (s : ClientSession) {q g : Called} {t : Bool} (e : q ≡ g) (h : t ≡ is_err q.outcome) where
-  opened-by : (b : Bool) → t ≡ b → opened s g ≡ cond b (ran (Ok (Answer q.outcome)) s) (answered q)
-  unfolding opened
-  opened-by b y = ap (opened s) (sym e) ∙ ap (λ (x : Bool). cond x (ran (Ok (Answer q.outcome)) s) (answered q)) (sym h ∙ y)
-
-  pub opened-refused : {r : Ran} → t ≡ true → r ≡ ran (Ok (Answer q.outcome)) s → r ≡ opened s g
-  opened-refused y p = p ∙ sym (opened-by true y)
-
-  pub opened-new : {r : Ran} → t ≡ false → r ≡ answered q → r ≡ opened s g
-  opened-new y p = p ∙ sym (opened-by false y)
-
--- ---- a body's digits t, decoded into old
+-- a body's digits t, decoded into old
 seen : Result ℕ UnhexError → List ℕ → Result (List ℕ) Why
 seen (Ok n) exit = Ok (part exit 0 n)
 seen (Err e) exit = Err (why_of e)

@@ -1,5 +1,7 @@
-// The calls without a body, each in a function of its own: in one function with all of them a line takes 1 µs more, since a function clears the room for all
-// its sessions as it begins. Their texts are places in the line s.
+// The calls without a body, each in a function of its own: in one function with all of them a line takes 0.6 µs more, since a function clears the room for
+// all its sessions as it begins. Their texts are places in the line s.
+#![tactic(auto, unfolding(crate::specs::Asked::after))]
+
 ghost use Rattle.session.specs.Calls.{connect, play, publish, stop_playback, stop_publishing, ping, bytes};
 ghost use Rattle.script_run.specs.Asked.{calls, text_at, Runs};
 

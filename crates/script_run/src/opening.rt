@@ -19,6 +19,7 @@ fn url_at(s: &[u8], text: Option<Span>) -> Option<Text>
     }
 }
 
+#[tactic(auto, unfolding(crate::specs::Asked::config_of))]
 pub(crate) fn config(s: &[u8], settings: Settings) -> ClientSessionConfig
     ensures { result ≡ config_of s.now settings }
 {
@@ -32,6 +33,7 @@ pub(crate) fn config(s: &[u8], settings: Settings) -> ClientSessionConfig
 }
 
 // A new session in the old one's place. The old one stays where opening is refused.
+#[tactic(auto, unfolding(crate::specs::Asked::opened))]
 pub(crate) fn open(session: ClientSession, config: ClientSessionConfig) -> Ran
     ensures { result ≡ opened session (open_of config) }
 {

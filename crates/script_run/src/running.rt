@@ -9,6 +9,7 @@ use script::Line;
 use session::{ClientSession, ClientSessionConfig};
 
 // The line s, without its newline. `body` is lent for the bytes of the line's body: nothing is said of what it holds after.
+#[tactic(auto, unfolding(crate::specs::Asked::asked, crate::specs::Asked::after))]
 pub fn run_line(session: ClientSession, s: &[u8], body: &mut [u8], out: &mut [u8]) -> Ran
     ensures { Runs session out.old (asks (length body.old) s.now (line_of s.now)) result out.new }
 {
