@@ -26,6 +26,7 @@ fn why_text(why: Why) -> &'static [u8]
 }
 
 // For standard error: what is wrong with the line of that number.
+#[tactic(auto, unfolding(crate::specs::Complaints::complaint))]
 pub fn write_complaint(out: &mut [u8], at: usize, line: u64, why: Why) -> Result<usize, NoSpace>
     ensures { WrittenAt out.old at (complaint line why) out.new result }
 {

@@ -9,6 +9,7 @@ use octets::NoSpace;
 use session::{ClientSessionError, ClientSessionEvent, ClientState, Packet};
 
 // Line number and stage.
+#[tactic(auto, unfolding(crate::specs::Results::head_text))]
 fn head(line: u64, stage: ClientState) -> Line
     ensures text { result ≡ head_text line stage }
     ensures upper_bound { length result ≤ 42 }
@@ -20,6 +21,7 @@ fn head(line: u64, stage: ClientState) -> Line
 }
 
 // A success without results.
+#[tactic(auto, unfolding(crate::specs::Results::none_line))]
 pub fn write_none(
     out: &mut [u8],
     at: usize,
@@ -34,6 +36,7 @@ pub fn write_none(
 }
 
 // A word and a number.
+#[tactic(auto, unfolding(crate::specs::Results::number_line))]
 fn numbered(line: u64, stage: ClientState, word: &[u8], n: u8) -> Line
     requires { length word.now ≤ 16 }
     ensures { result ≡ number_line line stage word.now n }
@@ -65,6 +68,7 @@ fn event_place(event: ClientSessionEvent) -> u8
 }
 
 // An event, up to its values: these, where they are told, and the line's end come after.
+#[tactic(auto, unfolding(crate::specs::Results::event_head))]
 pub fn write_event(
     out: &mut [u8],
     at: usize,
@@ -81,6 +85,7 @@ pub fn write_event(
 }
 
 // What is open after a line, up to the active stream: that, the open requests and the line's end come after.
+#[tactic(auto, unfolding(crate::specs::Results::open_head))]
 pub fn write_open(
     out: &mut [u8],
     at: usize,
@@ -119,6 +124,7 @@ pub fn write_refused(
 }
 
 // Type, time and stream.
+#[tactic(auto, unfolding(crate::specs::Results::numbers_text))]
 fn put_numbers(text: &mut Line, packet: Packet)
     requires { length text.old + 63 ≤ 128 }
     ensures put { text.new ≡ text.old ++ numbers_text packet }
@@ -130,6 +136,7 @@ fn put_numbers(text: &mut Line, packet: Packet)
 }
 
 // Whether it may be dropped, and whether it goes uncompressed.
+#[tactic(auto, unfolding(crate::specs::Results::flags_text))]
 fn put_flags(text: &mut Line, packet: Packet)
     requires { length text.old + 4 ≤ 128 }
     ensures { text.new ≡ text.old ++ flags_text packet }
@@ -141,6 +148,7 @@ fn put_flags(text: &mut Line, packet: Packet)
 }
 
 // A message to send, up to its body: the body's digits and the line's end come after.
+#[tactic(auto, unfolding(crate::specs::Results::packet_head))]
 pub fn write_packet(
     out: &mut [u8],
     at: usize,
