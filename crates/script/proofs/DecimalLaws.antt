@@ -52,3 +52,6 @@ module _ (a : ℕ) (s : List ℕ) (i : ℕ) (h : i < length s) (l : 48 ≤ get_o
 
   pub digit_more : (n : ℕ) → n ≤ 4294967295 → n ≡ a * 10 + (get_or s i 0 - 48) → decimal_from a (drop i s) ≡ decimal_from n (drop (i + 1) s)
   digit_more n m e = dec-step a s i h ∙ rw (le-ltb (get_or s i 0) 48 l, le-ltb 57 (get_or s i 0) g, ← e, le-ltb 4294967295 n m)
+
+-- what the reader of a number takes
+pub ruleset digits = (dec-none, dec_first, dec-end, no_digit, too_large, digit_more)

@@ -59,3 +59,6 @@ written s old h = rw (has_room s old h) (sets-eq (pairs s) old 0 (omega (arith, 
 pub kept : (s old : List ℕ) → length old < length s / 2 → old ≡ left old (pairs s)
 unfolding left
 kept s old h = rw (no_room s old h)
+
+-- what the answer of the decoder takes
+pub ruleset decoding = (even-hex, has_room, no_room, written, kept, length_pairs)

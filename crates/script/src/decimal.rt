@@ -3,6 +3,7 @@ ghost use Rattle.std.specs.Prelude.{◌≡◌};
 ghost use Rattle.script.specs.Decimal.{decimal_of};
 
 // The number that s writes, where it is one or more digits and fits a u32.
+#[tactic(auto, using(crate::proofs::DecimalLaws::digits))]
 pub(crate) fn number(s: &[u8]) -> Option<u32>
     ensures { result ≡ decimal_of s.now }
 {

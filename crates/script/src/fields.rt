@@ -22,6 +22,7 @@ impl<'a> Fields<'a> {
     }
 
     // Those after the field that ends at `end`.
+    #[tactic(auto, using(crate::proofs::FieldLaws::fields_min))]
     pub(crate) fn after(line: &'a [u8], end: usize) -> Fields<'a>
         ensures line { result.line.now ≡ line.now }
         ensures left { left result ≡ fields_after line.now end }
@@ -47,6 +48,7 @@ impl<'a> Fields<'a> {
     }
 
     // The place of a text.
+    #[tactic(auto, using(crate::proofs::ReadLaws::text_err, crate::proofs::ReadLaws::text_is))]
     pub(crate) fn text(&mut self) -> Result<Span, Why>
         ensures value { result ≡ text_of (left self.old) }
         ensures rest { left self.new ≡ rest (left self.old) }
@@ -66,6 +68,7 @@ impl<'a> Fields<'a> {
     }
 
     // The place of hexadecimal digits.
+    #[tactic(auto, using(crate::proofs::ReadLaws::text_is), unfolding(crate::specs::Lines::hex_of))]
     pub(crate) fn hex(&mut self) -> Result<Span, Why>
         ensures value { result ≡ hex_of (left self.old) }
         ensures rest { left self.new ≡ rest (left self.old) }
@@ -107,6 +110,7 @@ impl<'a> Fields<'a> {
     }
 
     // That no field is left.
+    #[tactic(auto, using(crate::proofs::ReadLaws::one_more, crate::proofs::ReadLaws::at_end))]
     pub(crate) fn end(&self) -> Result<(), Why>
         ensures { result ≡ ended (left self.now) }
     {
@@ -126,6 +130,7 @@ fn until(s: &[u8], b: u8) -> usize
 }
 
 // Where the first b from `at` on stands, or the end.
+#[tactic(auto, using(crate::proofs::FieldLaws::until_end))]
 pub fn find(s: &[u8], at: usize, b: u8) -> usize
     ensures value { result ≡ at + until b (drop at s.now) }
     ensures within { (at ≤ result) × (result ≤ at + (length s.now - at)) }

@@ -28,6 +28,7 @@ pub(crate) fn is_hex(s: &[u8]) -> bool
     s.len() % 2 == 0 && s.iter().all(|b| digit_value(*b).is_some())
 }
 
+#[tactic(auto, using(crate::proofs::HexLaws::pair_step, crate::proofs::HexLaws::pair_end), unfolding(crate::specs::Hex::pair_value))]
 fn decode(s: &[u8], out: &mut [u8])
     requires { length s.now ≤ 2 * length out.old }
     ensures { out.new ≡ sets out.old 0 (pairs s.now) }
@@ -40,6 +41,7 @@ fn decode(s: &[u8], out: &mut [u8])
 }
 
 // The bytes that s stands for, from output byte 0 on; how many they are.
+#[tactic(auto, using(crate::proofs::HexLaws::decoding), unfolding(crate::specs::Hex::unhex_of, crate::specs::Hex::unhex_into))]
 pub fn unhex(s: &[u8], out: &mut [u8]) -> Result<usize, UnhexError>
     ensures value { result ≡ unhex_of s.now out.old }
     ensures out_after { out.new ≡ unhex_into s.now out.old }

@@ -22,6 +22,7 @@ fn check_fields(s: &[u8], to: usize) -> Result<(), Why>
 }
 
 // The place of the value in a field that starts at `start`, where it begins with the name.
+#[tactic(auto, using(crate::proofs::MetadataLaws::begins_is))]
 fn value_in(field: &[u8], start: usize, name: &[u8]) -> Option<Span>
     requires { start + length field.now ≤ 9223372036854775807 }
     ensures { result ≡ value_in start field.now name.now }
@@ -32,6 +33,7 @@ fn value_in(field: &[u8], start: usize, name: &[u8]) -> Option<Span>
 }
 
 // Of equal names the later holds.
+#[tactic(auto, using(crate::proofs::MetadataLaws::last_more, crate::proofs::MetadataLaws::last_end))]
 fn last_value(s: &[u8], to: usize, name: &[u8]) -> Option<Span>
     ensures { result ≡ last_value name.now (fields_after s.now to) None }
 {

@@ -39,6 +39,7 @@ fn field_kind(s: &[u8]) -> Option<(FieldKind, &[u8])>
 }
 
 // The single whose pattern the 8 digits write.
+#[tactic(auto, using(crate::proofs::MetadataLaws::rate_length, crate::proofs::MetadataLaws::rate_refused, crate::proofs::MetadataLaws::rate_read))]
 pub(crate) fn rate_of(d: &[u8]) -> Option<f32>
     ensures { result ≡ rate_of d.now }
 {
