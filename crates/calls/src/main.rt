@@ -6,7 +6,7 @@ mod calling;
 mod making;
 mod showing;
 
-use case_lines::{Given, Hex, Output};
+use case_lines::{Given, Hex, IgnoreErrors, Output};
 use messages::RtmpTimestamp;
 use session::ClientSession;
 use showing::{Settings, Shown};
@@ -53,7 +53,7 @@ fn field<W: Write>(
     if *letter == b'=' {
         return to.write_all(text);
     }
-    let given = Given::new(case_lines::decode(text, space));
+    let given = Given::new(case_lines::decode(text, Some(b'.'), space));
     if making::set(*letter, session, given) {
         return Ok(());
     }
@@ -83,9 +83,9 @@ fn run<W: Write>(to: &mut W, text: &[u8]) -> io::Result<()> {
     to.flush()
 }
 
-// A write that fails ends the run: nobody is there to be told.
+// A write that fails is passed over, so that nothing is left for `run` to tell of.
 fn main(rt: HostRuntime) {
     let mut space = [0u8; 2097152];
     let text = case_lines::read_full(&mut rt.stdin(), &mut space);
-    let _ = run(&mut Output::new(rt.stdout()), text);
+    let _ = run(&mut IgnoreErrors(Output::new(rt.stdout())), text);
 }

@@ -6,11 +6,11 @@ use session::{ClientSession, ClientSessionError, ClientSessionResult, Outcome, P
 use std::fmt;
 
 // A value of a crate below, to be printed.
-#[derive(Clone, Copy)]
+#[derive(Debug, PartialEq, Eq, Clone, Copy)]
 pub struct Shown<'a, T>(pub &'a T);
 
 // The settings of a record: flash version; buffer length, window size and chunk size; tcUrl, `-` where none is configured.
-#[derive(Clone, Copy)]
+#[derive(Debug, PartialEq, Eq, Clone, Copy)]
 pub struct Settings<'a>(pub &'a ClientSession);
 
 // The number of document 01's table, and behind 2 the stage.

@@ -4,7 +4,7 @@ ghost use Rattle.std.specs.Int.{w16, w32, w64, from_be_bytes};
 ghost use Rattle.case_lines.specs.Cursor.{left};
 
 // The bytes that are left. A read past the end is `None` and takes all of them, so that every later read is `None` too.
-#[derive(Clone, Copy)]
+#[derive(Debug, PartialEq, Eq, Clone, Copy)]
 pub struct Given<'a> {
     left: &'a [u8],
 }

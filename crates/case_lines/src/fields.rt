@@ -11,21 +11,20 @@ pub fn publish_type(b: u8) -> PublishRequestType {
     }
 }
 
-// The value, where the byte says that it is there.
-fn given_if<T: Drop>(there: u8, value: T) -> Option<T> {
-    (there != 0).then_some(value)
-}
-
 // A single, by its pattern.
 fn single(pattern: u32) -> f32 {
     numbers::narrow(numbers::widen_bits(pattern))
 }
 
-// Eleven bytes say which fields are there; then come nine numbers of 4 bytes, the fourth the pattern of a single, and stereo. Whether the
+// Eleven bytes say which fields are there, of those that aren't given none; then come nine numbers of 4 bytes, the fourth the pattern of a single, and stereo. Whether the
 // encoder is there is answered beside the others: its place is left to the caller.
 pub fn metadata(given: &mut Given<'_>) -> (StreamMetadata, bool) {
-    let there = given.array::<11>().unwrap_or([0; 11]);
-    let mut number = |i: usize| given_if(there[i], given.number().unwrap_or(0));
+    let flags = given.up_to(11);
+    let is_there = |i: usize| flags.get(i).is_some_and(|b| *b != 0);
+    let mut number = |i: usize| {
+        let n = given.number().unwrap_or(0);
+        is_there(i).then_some(n)
+    };
     let fields = StreamMetadata {
         video_width: number(0),
         video_height: number(1),
@@ -36,8 +35,8 @@ pub fn metadata(given: &mut Given<'_>) -> (StreamMetadata, bool) {
         audio_bitrate_kbps: number(6),
         audio_sample_rate: number(7),
         audio_channels: number(8),
-        audio_is_stereo: given_if(there[9], given.byte() == Some(1)),
+        audio_is_stereo: is_there(9).then_some(given.byte() == Some(1)),
         encoder: None,
     };
-    (fields, there[10] != 0)
+    (fields, is_there(10))
 }

@@ -13,14 +13,14 @@ fn nibble(b: u8) -> u8
     }
 }
 
-// The bytes that s spells, as many as `space` has room for. A point between two bytes is passed over.
-pub fn decode<'a>(s: &[u8], space: &'a mut [u8]) -> &'a [u8]
+// The bytes that s spells, as many as `space` has room for. Where there is a `mark`, it is passed over before a byte's first digit.
+pub fn decode<'a>(s: &[u8], mark: Option<u8>, space: &'a mut [u8]) -> &'a [u8]
     ensures { length result.now ≤ length space.old }
 {
     let mut digits = s.iter().copied();
     let mut n = 0;
     for b in space.iter_mut() {
-        let Some(high) = digits.find(|c| *c != b'.') else {
+        let Some(high) = digits.find(|c| Some(*c) != mark) else {
             break;
         };
         let Some(low) = digits.next() else {
@@ -33,7 +33,7 @@ pub fn decode<'a>(s: &[u8], space: &'a mut [u8]) -> &'a [u8]
 }
 
 // Bytes that print as their digits, two each.
-#[derive(Clone, Copy)]
+#[derive(Debug, PartialEq, Eq, Clone, Copy)]
 pub struct Hex<'a>(pub &'a [u8]);
 
 impl fmt::Display for Hex<'_> {
@@ -46,7 +46,7 @@ impl fmt::Display for Hex<'_> {
 }
 
 // A number that prints in at least so many digits.
-#[derive(Clone, Copy)]
+#[derive(Debug, PartialEq, Eq, Clone, Copy)]
 pub struct Digits(pub u64, pub usize);
 
 impl fmt::Display for Digits {

@@ -2,7 +2,7 @@
 use std::fmt;
 
 // Prints the value, or the word where there is none.
-#[derive(Clone, Copy)]
+#[derive(Debug, PartialEq, Eq, Clone, Copy)]
 pub struct OrWord<'a, T>(pub Option<T>, pub &'a str);
 
 impl<T: fmt::Display> fmt::Display for OrWord<'_, T> {

@@ -32,7 +32,7 @@ pub fn reads<W: Write>(to: &mut W, given: &[u8]) -> io::Result<()> {
 }
 
 // A slice, a name that stands behind it, and a part of the slice.
-#[derive(Clone, Copy)]
+#[derive(Debug, PartialEq, Eq, Clone, Copy)]
 struct Named<'a> {
     s: &'a [u8],
     name: &'a [u8],

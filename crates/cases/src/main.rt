@@ -9,6 +9,7 @@ mod shown;
 mod values;
 mod writing;
 
+use case_lines::{IgnoreErrors, Output};
 use std::io;
 use std::io::Write;
 
@@ -33,7 +34,7 @@ fn line<W: Write>(to: &mut W, s: &[u8], space: &mut [u8], out: &mut [u8]) -> io:
     let [letter, _, digits @ ..] = s else {
         return Ok(());
     };
-    case(to, *letter, case_lines::decode(digits, space), out)?;
+    case(to, *letter, case_lines::decode(digits, None, space), out)?;
     writeln!(to)
 }
 
@@ -46,9 +47,9 @@ fn run<W: Write>(to: &mut W, text: &[u8]) -> io::Result<()> {
     to.flush()
 }
 
-// A write that fails ends the run: nobody is there to be told.
+// A write that fails is passed over, so that nothing is left for `run` to tell of.
 fn main(rt: HostRuntime) {
     let mut space = [0u8; 2097152];
     let text = case_lines::read_full(&mut rt.stdin(), &mut space);
-    let _ = run(&mut case_lines::Output::new(rt.stdout()), text);
+    let _ = run(&mut IgnoreErrors(Output::new(rt.stdout())), text);
 }

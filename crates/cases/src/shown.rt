@@ -2,7 +2,7 @@
 use case_lines::Digits;
 
 // A value of a crate below, to be printed. Its impls stand beside the cases that show it.
-#[derive(Clone, Copy)]
+#[derive(Debug, PartialEq, Eq, Clone, Copy)]
 pub struct Shown<T>(pub T);
 
 // A single, as its pattern.

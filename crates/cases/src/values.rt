@@ -27,7 +27,7 @@ impl fmt::Display for Shown<Span> {
 }
 
 // Where the value of a property stands, if there is one.
-#[derive(Clone, Copy)]
+#[derive(Debug, PartialEq, Eq, Clone, Copy)]
 struct At(Option<usize>);
 
 impl fmt::Display for At {
