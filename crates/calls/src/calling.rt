@@ -44,11 +44,7 @@ fn audio(
 fn encoder(is_there: bool, given: &mut Given<'_>) -> Option<Span> {
     let start = given.long().unwrap_or(0) as usize;
     let len = given.long().unwrap_or(0) as usize;
-    if is_there {
-        Some(Span { start, len })
-    } else {
-        None
-    }
+    is_there.then_some(Span { start, len })
 }
 
 fn metadata(

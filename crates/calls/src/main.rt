@@ -75,6 +75,7 @@ fn line<W: Write>(to: &mut W, s: &[u8], space: &mut [u8], out: &mut [u8]) -> io:
 }
 
 fn run<W: Write>(to: &mut W, text: &[u8]) -> io::Result<()> {
+    // What is lent lies in arrays, since no heap is used.
     let mut space = [0u8; 131072];
     let mut out = [0u8; 2048];
     for s in text.split_inclusive(|b| *b == b'\n') {
@@ -85,6 +86,7 @@ fn run<W: Write>(to: &mut W, text: &[u8]) -> io::Result<()> {
 
 // A write that fails is passed over, so that nothing is left for `run` to tell of.
 fn main(rt: HostRuntime) {
+    // The whole input lies in an array, since no heap is used.
     let mut space = [0u8; 2097152];
     let text = case_lines::read_full(&mut rt.stdin(), &mut space);
     let _ = run(&mut IgnoreErrors(Output::new(rt.stdout())), text);

@@ -95,17 +95,10 @@ impl fmt::Display for Shown<'_, OutstandingTransaction> {
     }
 }
 
-// Where a place comes in the order: by its number, and of equal numbers by where it stands. A free one comes before all, and isn't shown.
-fn order(places: &[Place; 8], i: usize) -> (Option<u32>, usize) {
-    match places.get(i) {
-        Some(
-            Place {
-                request: Some((number, _)),
-                ..
-            },
-        ) => (Some(number.0), i),
-        _ => (None, i),
-    }
+// The number of the request at a place; None where the place is free.
+fn number_at(places: &[Place; 8], i: usize) -> Option<u32> {
+    let (number, _) = places.get(i)?.request?;
+    Some(number.0)
 }
 
 // The open requests, in the order of their numbers; `-` where none is open.
@@ -113,7 +106,8 @@ impl fmt::Display for Shown<'_, [Place; 8]> {
     fn fmt<W: fmt::Write>(&self, f: &mut fmt::Formatter<W>) -> fmt::Result {
         let places = self.0;
         let mut indices = [0usize, 1, 2, 3, 4, 5, 6, 7];
-        indices.sort_unstable_by_key(|i| order(places, *i));
+        // Of equal numbers the earlier place comes first; a free place comes before all, and isn't shown.
+        indices.sort_unstable_by_key(|i| (number_at(places, *i), *i));
         let mut is_none = true;
         for place in indices.iter().filter_map(|i| places.get(*i)) {
             if let Some((number, transaction)) = place.request {

@@ -4,6 +4,7 @@
 use script_io::Telling;
 
 // A line has at most 2,097,407 bytes and a body 1,048,576, so that such a body's digits fit a line.
+// What is lent lies in arrays, since no heap is used.
 fn main(rt: HostRuntime) {
     let mut buf = [0u8; 2097408];
     let mut body = [0u8; 1048576];

@@ -1,2 +1,3 @@
 -- The laws that the proofs cite.
 mod Sent
+pub mod Spaces

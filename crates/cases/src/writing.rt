@@ -45,11 +45,7 @@ fn publish(mut given: Given<'_>, out: &mut [u8]) -> Option<Result<usize, NoSpace
 fn encoder(is_there: bool, s: &[u8]) -> Option<Span>
     ensures { length (stretch s.now result) ≤ 255 }
 {
-    if is_there {
-        Some(Span { start: 0, len: 255 })
-    } else {
-        None
-    }
+    is_there.then_some(Span { start: 0, len: 255 })
 }
 
 fn metadata(mut given: Given<'_>, out: &mut [u8]) -> Result<usize, NoSpace> {

@@ -15,7 +15,7 @@ use std::io;
 use std::io::{Stderr, Stdin, Stdout};
 
 // What is told of each line.
-#[derive(Clone, Copy)]
+#[derive(Debug, PartialEq, Eq, Clone, Copy)]
 pub enum Telling {
     // document 01's result lines
     Results,
@@ -23,7 +23,7 @@ pub enum Telling {
     Values,
 }
 
-// Until the input ends or can't be read, or a result can't be written.
+// Until the input ends or can't be read, or a result can't be written. The turns are counted, as each function must be shown to end.
 fn go_on(run: &mut Run<'_>, input: &mut Input<'_>) -> io::Result<()> {
     for _ in 0..u64::MAX {
         if !run.turn(input)? {

@@ -42,6 +42,7 @@ impl<'a> Output<'a> {
 
     // Says what is wrong with the line of that number.
     pub(crate) fn unread(&self, line: u64, why: Why) {
+        // No heap is used; no message is longer.
         let mut text = [0u8; 128];
         if let Ok(n) = script_results::write_complaint(&mut text, 0, line, why) {
             self.complain(octets::part(&text, 0, n));
@@ -79,6 +80,7 @@ impl<'a> Output<'a> {
 
     // A decimal number.
     pub(crate) fn number(&mut self, n: u64) -> Result<()> {
+        // No heap is used; no u64 has more digits.
         let mut spelt = [0u8; 20];
         let k = io::decimal(n, &mut spelt);
         self.put(&spelt[..k])

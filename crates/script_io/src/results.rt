@@ -7,7 +7,7 @@ use std::io;
 
 // What the results of a line are told with: its number, the stage after it, where bodies of messages to send lie, and, where events are told with
 // their values, the body of the message that came.
-#[derive(Clone, Copy)]
+#[derive(Debug, PartialEq, Eq, Clone, Copy)]
 pub struct Results<'a> {
     pub line: u64,
     pub stage: ClientState,

@@ -7,7 +7,7 @@ use std::io;
 
 // The pattern of a single. That of a NaN is document 01's, whichever the compiled code holds.
 fn pattern_of(x: f32) -> u32 {
-    if x != x {
+    if x.is_nan() {
         return 0x7fc0_0000;
     }
     x.to_bits()

@@ -1,5 +1,5 @@
 -- `main` is safe and ends: the array has its length.
-use Rattle.calls.proofs.Spaces.{zeros}
+use Rattle.case_lines.proofs.Spaces.{zeros}
 use Rattle.calls.proofs.main.Goals as goal
 
 pub slice_bounds-read_full-end : goal.slice_bounds-read_full-end
