@@ -20,7 +20,7 @@ MISTAKES = [
      '            self.link.total = total;\n            return Ok(Outcome::Nothing);\n        };\n'),
 ]
 
-NO_SESSION = ('session/src/record.rt', ' && requests.sound()\n', ' && false\n',
+NO_SESSION = ('session/src/record.rt', ' && self.requests.sound()\n', ' && false\n',
               'session/src/record.rt', '            && requests::all_free(&self.requests.places)\n', '            && false\n')
 
 
