@@ -91,7 +91,7 @@ pub fn text_property<'a>(s: &'a [u8], at: usize, name: &[u8]) -> &'a [u8]
     ensures { result.now ≡ stretch s.now (text_of_property s.now name.now (properties_at (drop at s.now))) }
 {
     match text_at(s, at, name) {
-        Some(Span { start, len }) => octets::part(s, start, len),
+        Some(place) => place.part_of(s),
         None => &s[..0],
     }
 }

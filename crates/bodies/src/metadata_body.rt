@@ -30,7 +30,7 @@ fn encoder_len(v: Option<Span>, text: &[u8]) -> usize
     ensures { (result ≡ size_if v (length (stretch text.now v) + 12)) × (result < 2 ^ 17) }
 {
     match v {
-        Some(found) => octets::part(text, found.start, found.len).len() + 12,
+        Some(found) => found.part_of(text).len() + 12,
         None => 0,
     }
 }
@@ -100,7 +100,7 @@ fn put_encoder(w: &mut Writer, v: Option<Span>, text: &[u8])
     ensures value { w.new.at ≡ w.old.at + size_if v (length (stretch text.now v) + 12) }
 {
     if let Some(found) = v {
-        put_text_property(w, b"encoder", octets::part(text, found.start, found.len));
+        put_text_property(w, b"encoder", found.part_of(text));
     }
 }
 

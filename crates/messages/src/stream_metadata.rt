@@ -71,7 +71,7 @@ fn places_in(body: &[u8], at: usize) -> Result<[Option<usize>; 11], Malformed>
     let mut places = [None; 11];
     let mut i = at;
     while let Some(Property { name, next }) = amf0::property_at(body, i)? {
-        if let Some(k) = field_index(octets::part(body, name.start, name.len)) {
+        if let Some(k) = field_index(name.part_of(body)) {
             places[k] = Some(name.start + name.len);
         }
         i = next;

@@ -66,7 +66,7 @@ impl From<Malformed> for ClientSessionError {
     ghost from_gives = { λ m e. e ≡ malformed_body };
 
     fn from(_malformed: Malformed) -> ClientSessionError {
-        ClientSessionError::MalformedBody
+        Self::MalformedBody
     }
 }
 
@@ -85,6 +85,6 @@ impl From<NoSpace> for ClientSessionError {
     ghost from_gives = { λ n e. e ≡ space };
 
     fn from(_no_space: NoSpace) -> ClientSessionError {
-        ClientSessionError::Space
+        Self::Space
     }
 }

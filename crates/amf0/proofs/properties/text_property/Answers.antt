@@ -7,7 +7,7 @@ use Rattle.amf0.proofs.properties.text_property.Goals as goal
 pub returns-in-Some : goal.returns-in-Some
 unfolding stretch
 returns-in-Some c =
-    c.part.ensures ∙ ap (stretch c.args.s.now)
+    c.part_of.ensures ∙ ap (stretch c.args.s.now)
     (sym c.in-Some.is ∙ c.text_at.ensures)
 
 pub returns-in-None : goal.returns-in-None

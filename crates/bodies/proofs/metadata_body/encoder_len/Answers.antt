@@ -10,4 +10,4 @@ use Rattle.bodies.proofs.metadata_body.encoder_len.Goals as goal
 pub returns-in-Some : goal.returns-in-Some
 unfolding stretch
 returns-in-Some c =
-    rw c.in-Some.is (omega (arith, ap length c.part.ensures, ap length (stretch-at c.args.text.now c.in-Some.is)))
+    rw c.in-Some.is (omega (arith, ap length c.part_of.ensures, ap length (stretch-at c.args.text.now c.in-Some.is)))

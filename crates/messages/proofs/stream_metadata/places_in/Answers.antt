@@ -18,7 +18,7 @@ read c = property-says c.args.body.now c.loop-name.i (Ok (Some c.in-Some.field-0
 -- the field whose name it has
 index : (c : In-Some-field_index)
     → Some c.in-Some-field_index.k ≡ field_index (part c.args.body.now c.in-Some.field-0.name.start c.in-Some.field-0.name.len)
-index c = sym c.in-Some-field_index.is ∙ c.field_index.ensures ∙ ap field_index c.part.ensures
+index c = sym c.in-Some-field_index.is ∙ c.field_index.ensures ∙ ap field_index c.part_of.ensures
 
 pub returns-in_err-name : goal.returns-in_err-name
 returns-in_err-name c =
@@ -49,7 +49,7 @@ loop-name-smaller c =
 pub loop-name-preserved : goal.loop-name-preserved
 loop-name-preserved c =
     keeps_miss _ c.loop-name.invariant (read (goal.at.loop-name-preserved c).In-Some)
-    (sym c.in_default-field_index.is ∙ c.field_index.ensures ∙ ap field_index c.part.ensures)
+    (sym c.in_default-field_index.is ∙ c.field_index.ensures ∙ ap field_index c.part_of.ensures)
 
 pub returns : goal.returns
 returns c =
