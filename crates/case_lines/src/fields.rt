@@ -16,8 +16,8 @@ fn single(pattern: u32) -> f32 {
     numbers::narrow(numbers::widen_bits(pattern))
 }
 
-// Eleven bytes say which fields are there, of those that aren't given none; then come nine numbers of 4 bytes, the fourth the pattern of a single, and stereo. Whether the
-// encoder is there is answered beside the others: its place is left to the caller.
+// Eleven bytes say which fields are there, and one that isn't given says no; then come nine numbers of 4 bytes, the fourth the pattern of a
+// single, and stereo. Whether the encoder is there is answered beside the others: its place is left to the caller.
 pub fn metadata(given: &mut Given<'_>) -> (StreamMetadata, bool) {
     let flags = given.up_to(11);
     let is_there = |i: usize| flags.get(i).is_some_and(|b| *b != 0);
