@@ -106,7 +106,10 @@ CALLS = [
      'session/src/client.rt:connect', '        let len = sending::connect(&self.config, number, app, out)?;\n        self.requests = requests;\n',
      '        self.requests = requests;\n        let len = sending::connect(&self.config, number, app, out)?;\n',
      'session/src/client.rt:request_stream', '        let len = bodies::write_create_stream(out, number)?;\n        self.requests = requests;\n',
-     '        self.requests = requests;\n        let len = bodies::write_create_stream(out, number)?;\n'),
+     '        self.requests = requests;\n        let len = bodies::write_create_stream(out, number)?;\n',
+     'session/src/client.rt:stopped', '                let len = bodies::write_delete_stream(out, stream)?;\n',
+     '                self.progress = Progress {\n                    state: ClientState::Connected,\n                    active: None,\n                };\n'
+     '                let len = bodies::write_delete_stream(out, stream)?;\n'),
     ('tcUrl is not tested where it is configured', 'session/src/config.rt', 'Some(url) => url.sound(),', 'Some(_) => true,'),
     ('the default buffer is 200 milliseconds', 'session/src/config.rt', 'playback_buffer_length_ms: 2000,', 'playback_buffer_length_ms: 200,'),
     ('tcUrl is sent where none is configured, and not where one is',
