@@ -4,15 +4,15 @@
 use Prim.Native.Nat.{ℕ, zero, suc, ◌+◌, ◌<◌}
 use native.Mathlib.Omega.{arith}
 use mathlib.Core.Path.{◌≡◌, refl, sym, ap, ◌∙◌}
-use mathlib.Core.Bool.{Bool, true, false, cond}
+use mathlib.Core.Bool.{Bool, true, false}
 use mathlib.Core.List.{List, [], ◌∷◌, map}
 use lib.Dec.{eqb}
 use lib.ListN.{length, drop, get_or, set, replicate, length-set, get_or-replicate}
 use lib.Seq.{get_or-set_same, get_or-set_other, ext_get_or}
 use borrow.Author.Tests.{eqb-true, eqb-false}
 use Rattle.std.specs.Prelude.{Option, Some, None, Result, Ok, Err}
-use Rattle.std.specs.Option.{option_map}
 use Rattle.std.specs.Result.{result_unwrap_or}
+use Rattle.std.proofs.lemmas.List.Quantifiers.{position-Some}
 use Rattle.octets.specs.Parse.{Parse, bad, got}
 use Rattle.octets.specs.Compare.{same, part}
 use Rattle.octets.proofs.CompareLaws.{ne_same}
@@ -22,33 +22,15 @@ use Rattle.amf0.specs.Places.{malformed, start_at, found_at, found_of}
 use Rattle.amf0.specs.declared.read.Malformed.{Malformed}
 use Rattle.amf0.proofs.CutLaws.{clash}
 use Rattle.amf0.proofs.FindLaws.{PropertyRead, or_best, best-bad, best-last, find_hit, find_miss, found-from}
-use Rattle.messages.specs.Metadata.{field_names, index_in, field_index, field_places, kind_there, field_kind}
+use Rattle.messages.specs.Metadata.{field_names, field_index, field_places, kind_there, field_kind}
 use Rattle.messages.proofs.FieldLaws.{found_there}
 
 abbrev pub name_at : ℕ → List ℕ
 name_at k = get_or field_names k []
 
 -- ---- the index of a name
--- n is the name at that index
-abbrev Named : List (List ℕ) → List ℕ → ℕ → Type 0
-Named ms n k = (k < length ms) × (same n (get_or ms k []) ≡ true)
-
-index_same : (ms : List (List ℕ)) (n : List ℕ) (k : ℕ) → Some k ≡ index_in ms n → Named ms n k
-unfolding index_in
-index_same [] n k e = clash (cc)
-index_same (m ∷ ms) n k e = go (same n m) refl (index_same ms n) e
-  where
-    later : (o : Option ℕ) → ((j : ℕ) → Some j ≡ o → Named ms n j) → Some k ≡ option_map suc o → Named (m ∷ ms) n k
-    later None ih e = clash (cc)
-    later (Some j) ih e =
-        let h = ih j refl in
-        let i : k ≡ suc j = cc in
-        rw i (omega arith, h.1)
-
-    go : (b : Bool) → same n m ≡ b → ((j : ℕ) → Some j ≡ index_in ms n → Named ms n j) → Some k ≡ cond b (Some 0) (option_map suc (index_in ms n))
-        → Named (m ∷ ms) n k
-    go true q ih e = let i : k ≡ 0 = cc in rw i (omega arith, q)
-    go false q ih e = later (index_in ms n) ih e
+index_same : (n : List ℕ) (k : ℕ) → Some k ≡ field_index n → (k < 11) × (same n (name_at k) ≡ true)
+index_same n k e = let h = position-Some (same n) field_names k [] (sym e) in (h.0, h.1)
 
 -- no two of the names are the same, so each is found at its own index
 abbrev numbers : ℕ → ℕ → List (Option ℕ)
@@ -61,7 +43,7 @@ number_at i (suc n) zero h = ap Some (omega arith)
 number_at i (suc n) (suc k) h = number_at (suc i) n k (omega arith) ∙ ap Some (omega arith)
 
 own_indices : map field_index field_names ≡ numbers 0 11
-unfolding index_in same
+unfolding same
 own_indices = refl
 
 map_at : (f : List ℕ → Option ℕ) (l : List (List ℕ)) (k : ℕ) → k < length l → get_or (map f l) k None ≡ f (get_or l k [])
@@ -77,7 +59,7 @@ other_name : (n : List ℕ) (k : ℕ) → k < 11 → (field_index n ≡ Some k �
 other_name n k h ne = ne_same n (name_at k) (λ e. ne (ap field_index e ∙ own_index k h))
 
 pub index_below : (n : List ℕ) (k : ℕ) → Some k ≡ field_index n → k < 11
-index_below n k e = (index_same field_names n k e).0
+index_below n k e = (index_same n k e).0
 
 -- ---- what the pass keeps: the places of what was found so far, before the properties at i
 pub record Keeps (s : List ℕ) (q : Parse (List Property)) (i : ℕ) (places : List (Option ℕ)) : Type 0 where
@@ -112,7 +94,7 @@ module _ (s : List ℕ) where
             ≡ or_best (get_or (set places k (Some (start + len))) m None) (found_of s (name_at m) (object_of (value 7) (drop j s)))
         go m l true t =
             let a : m ≡ k = eqb-true m k t in
-            let h = index_same field_names (part s start len) k e in
+            let h = index_same (part s start len) k e in
             rw (a, get_or-set_same places k (Some (start + len)) None (omega (arith, h.0, K.long)))
             (K.each k h.0 ∙ find_hit s (name_at k) (get_or places k None) i p h.1)
         go m l false t =

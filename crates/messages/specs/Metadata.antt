@@ -1,7 +1,8 @@
 -- The metadata of a stream, read from an object. Of equal names the later holds, and then its kind is judged: a field is absent where the
 -- value is of the wrong kind (document 01, "Bodies").
 -- Assumes nothing.
-use Rattle.std.specs.Prelude.{ℕ, suc, Bool, Float, cond, List, [], ◌∷◌, map, drop, Option, Some, None, Result, Ok, Err}
+use Rattle.std.specs.Prelude.{ℕ, Bool, Float, List, [], ◌∷◌, map, drop, Option, Some, None, Result, Ok, Err}
+use Rattle.std.specs.List.{position}
 use Rattle.std.specs.Option.{option_map}
 use Rattle.std.specs.Result.{result_ok}
 use Rattle.std.specs.Float.{binary64}
@@ -50,12 +51,8 @@ field_names =
     ∷ []
 
 -- which of the names n is; none of another name
-unfoldable pub index_in : List (List ℕ) → List ℕ → Option ℕ
-index_in [] n = None
-index_in (m ∷ ms) n = cond (same n m) (Some 0) (option_map suc (index_in ms n))
-
 abbrev pub field_index : List ℕ → Option ℕ
-field_index = index_in field_names
+field_index n = position (same n) field_names
 
 -- for each field where its value starts, of the properties that were read
 unfoldable pub field_places : List ℕ → Parse (List Property) → Result (List (Option ℕ)) Malformed

@@ -23,45 +23,26 @@ pub struct StreamMetadata {
     pub encoder: Option<Span>,
 }
 
+// The fields' names, in the order of sending.
+const NAMES: [&[u8]; 11] = [
+    b"width",
+    b"height",
+    b"videocodecid",
+    b"framerate",
+    b"videodatarate",
+    b"audiocodecid",
+    b"audiodatarate",
+    b"audiosamplerate",
+    b"audiochannels",
+    b"stereo",
+    b"encoder",
+];
+
 // Which field's name that is, in the order of sending; none for another name.
-#[tactic(auto, unfolding(crate::specs::Metadata::index_in))]
 fn field_index(name: &[u8]) -> Option<usize>
     ensures { result ≡ field_index name.now }
 {
-    if octets::same(name, b"width") {
-        return Some(0);
-    }
-    if octets::same(name, b"height") {
-        return Some(1);
-    }
-    if octets::same(name, b"videocodecid") {
-        return Some(2);
-    }
-    if octets::same(name, b"framerate") {
-        return Some(3);
-    }
-    if octets::same(name, b"videodatarate") {
-        return Some(4);
-    }
-    if octets::same(name, b"audiocodecid") {
-        return Some(5);
-    }
-    if octets::same(name, b"audiodatarate") {
-        return Some(6);
-    }
-    if octets::same(name, b"audiosamplerate") {
-        return Some(7);
-    }
-    if octets::same(name, b"audiochannels") {
-        return Some(8);
-    }
-    if octets::same(name, b"stereo") {
-        return Some(9);
-    }
-    if octets::same(name, b"encoder") {
-        return Some(10);
-    }
-    None
+    NAMES.iter().position(|field| octets::same(name, *field))
 }
 
 // For each field where the value of the last property of its name starts, among those at `at`.
