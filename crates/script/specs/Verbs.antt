@@ -1,6 +1,6 @@
 -- The verbs, and the words for what is published: document 01, "Program `card`", and the further calls of a session.
 -- Assumes nothing.
-use Rattle.std.specs.Prelude.{ℕ, cond, List, [], ◌∷◌, Option, Some, None}
+use Rattle.std.specs.Prelude.{ℕ, List, [], ◌∷◌, Option}
 use Rattle.std.specs.List.{find}
 use Rattle.std.specs.Option.{option_map}
 use Rattle.octets.specs.Compare.{ascii, same}
@@ -19,8 +19,9 @@ verbs =
 abbrev pub verb_of : List ℕ → Option Verb
 verb_of s = option_map (λ row. row.1) (find (λ row. same s row.0) verbs)
 
+-- each kind of publishing with its word
+abbrev pub types : List (List ℕ × PublishRequestType)
+types = (ascii "live", Live) ∷ (ascii "record", Record) ∷ (ascii "append", Append) ∷ []
+
 abbrev pub publish_type : List ℕ → Option PublishRequestType
-publish_type s =
-    cond (same s (ascii "live")) (Some Live)
-    (cond (same s (ascii "record")) (Some Record)
-    (cond (same s (ascii "append")) (Some Append) None))
+publish_type s = option_map (λ row. row.1) (find (λ row. same s row.0) types)

@@ -44,16 +44,15 @@ pub(crate) fn verb_of(s: &[u8]) -> Option<Verb>
     Some(*verb)
 }
 
+const TYPES: [(&[u8], PublishRequestType); 3] = [
+    (b"live", PublishRequestType::Live),
+    (b"record", PublishRequestType::Record),
+    (b"append", PublishRequestType::Append),
+];
+
 pub(crate) fn publish_type(s: &[u8]) -> Option<PublishRequestType>
     ensures { result ≡ publish_type s.now }
 {
-    if octets::same(s, b"live") {
-        Some(PublishRequestType::Live)
-    } else if octets::same(s, b"record") {
-        Some(PublishRequestType::Record)
-    } else if octets::same(s, b"append") {
-        Some(PublishRequestType::Append)
-    } else {
-        None
-    }
+    let (_, kind) = TYPES.iter().find(|(word, _)| octets::same(s, *word))?;
+    Some(*kind)
 }
