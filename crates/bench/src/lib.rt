@@ -1,4 +1,4 @@
-// What the benchmark calls from C.
+// What the benchmark calls from C. A C function answers one number and no Option, so the largest stands where there is none.
 #![tactic(auto)]
 
 ghost use Rattle.std.specs.Prelude.{◌≡◌, drop};

@@ -1,4 +1,4 @@
-// Big-endian numbers at a place of a slice.
+// Big-endian numbers at a place of a slice. The readers take `(s, at)`, as document 01 asks for a "slice-and-number core".
 ghost use Rattle.std.specs.Prelude.{◌≡◌, ◌<◌, drop, MatchOption};
 ghost use Rattle.octets.specs.BigEndian.{uint, read_as};
 ghost use Rattle.octets.specs.Parse.{bad, got, field};

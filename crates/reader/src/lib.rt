@@ -1,4 +1,4 @@
-// A reader carries a body and its position in it. The work is done by `value_at`, on a slice and a number; what takes the struct apart is thin.
+// A reader carries a body and its position in it. The work is done by `value_at`, on a slice and a number; `read_value` only calls it and moves the position.
 #![tactic(auto)]
 
 ghost use Rattle.std.specs.Prelude.{◌≡◌, drop};

@@ -14,9 +14,13 @@ use Rattle.messages.specs.declared.ids.TransactionNumber.{TransactionNumber}
 unfoldable pub none : Requests
 none = record { next = 1; places = replicate 8 empty_place }
 
+-- refusal 13's condition on the number that is due next
+abbrev pub next_sound : Requests → Bool
+next_sound r = ltb 0 r.next && leb r.next 4294967296
+
 -- refusal 13's conditions on numbers and on the texts of open requests
 unfoldable pub requests_sound : Requests → Bool
-requests_sound r = (ltb 0 r.next && leb r.next 4294967296) && places_sound r.next r.places
+requests_sound r = next_sound r && places_sound r.next r.places
 
 -- refusal 11's condition, and refusal 10's
 abbrev pub spent : Requests → Bool

@@ -7,7 +7,8 @@ use crate::outstanding_transaction::OutstandingTransaction;
 use crate::text::Text;
 use messages::TransactionNumber;
 
-// What stands in the text of a free place never matters.
+// What stands in the text of a free place never matters. It stands beside the request and not in it: a closed place's text is emptied, as stream
+// keys are secrets, and of bytes inside a None nothing could be said.
 #[derive(Debug, PartialEq, Eq, Clone, Copy)]
 pub struct Place {
     pub request: Option<(TransactionNumber, OutstandingTransaction)>,

@@ -1,6 +1,6 @@
 // The table of open requests, and the number that is due next.
 ghost use Rattle.std.specs.Prelude.{◌≡◌};
-ghost use Rattle.requests.specs.Table.{requests_sound, none as none_of, take_of, close_of};
+ghost use Rattle.requests.specs.Table.{next_sound, requests_sound, none as none_of, take_of, close_of};
 
 use crate::outstanding_transaction::OutstandingTransaction;
 use crate::place::{Place, Request, close, find, first_free, places_sound};
@@ -33,11 +33,18 @@ impl Requests {
         }
     }
 
+    // Whether the next number is such as a session has. 4,294,967,296 is none that can be given: then all are spent.
+    pub fn next_sound(&self) -> bool
+        ensures { result ≡ next_sound self.now }
+    {
+        0 < self.next && self.next <= 4294967296
+    }
+
     // Whether the numbers and texts are such as a session has: else refusal 13.
     pub fn sound(&self) -> bool
         ensures { result ≡ requests_sound self.now }
     {
-        0 < self.next && self.next <= 4294967296 && places_sound(&self.places, self.next)
+        self.next_sound() && places_sound(&self.places, self.next)
     }
 
     // Takes the next number and a place for a request with that text, which has at most 255 bytes.

@@ -2,7 +2,8 @@
 ghost use Rattle.std.specs.Prelude.{◌≡◌, ◌≤◌};
 ghost use Rattle.requests.specs.Texts.{stored, fits as fits_of, text_of, text_sound};
 
-// The text is the first `len` of the bytes. They lie in an array, since no heap is used.
+// The text is the first `len` of the bytes. They lie in an array, since no heap is used; a struct, as a record may hold
+// a length over 255, which refusal 13 meets.
 #[derive(Debug, PartialEq, Eq, Clone, Copy)]
 pub struct Text {
     pub len: usize,

@@ -3,10 +3,10 @@
 use Rattle.std.specs.Prelude.{is_some, Option, None, Some}
 use Rattle.std.specs.List.{list_all}
 use mathlib.Core.Bool.{false≢true}
-use Rattle.std.proofs.Common.{◌≡◌, ℕ, zero, suc, ◌<◌, ◌≤◌, true, false, ltb, List, [], ◌∷◌, take, refl, sym, arith, lt-ltb, le-leb}
+use Rattle.std.proofs.Common.{◌≡◌, ℕ, zero, suc, ◌≤◌, true, false, ltb, List, [], ◌∷◌, take, refl, sym, arith, le-leb}
 use Rattle.octets.proofs.Utf8Laws.{all_ascii, utf8-ascii}
 use Rattle.requests.specs.Places.{all_free}
-use Rattle.requests.specs.Table.{requests_sound}
+use Rattle.requests.specs.Table.{next_sound, requests_sound}
 use Rattle.requests.specs.Texts.{text_of, text_sound}
 use Rattle.requests.specs.declared.text.Text.{Text}
 use Rattle.requests.proofs.BoolLaws.{and_left, and_right}
@@ -35,7 +35,7 @@ all-ascii [] e = refl
 all-ascii (x ∷ s) e = rw (and_left (ltb x 0x80) _ e, all-ascii s (and_right (ltb x 0x80) _ e))
 
 pub plain-session : (s : ClientSession) → is_some s.config.tc_url ≡ false → s.config.chunk_size ≤ 2147483647 → text_sound s.config.flash_version ≡ true
-    → 0 < s.requests.next → s.requests.next ≤ 4294967296 → all_free s.requests.places ≡ true → is_session s ≡ true
+    → next_sound s.requests ≡ true → all_free s.requests.places ≡ true → is_session s ≡ true
 unfolding is_session texts_sound requests_sound
-plain-session s u k f p n a =
-    rw (f, none-sound s.config.tc_url u, le-leb s.config.chunk_size 2147483647 k, lt-ltb 0 s.requests.next p, le-leb s.requests.next 4294967296 n, free_places s.requests.next s.requests.places a)
+plain-session s u k f n a =
+    rw (f, none-sound s.config.tc_url u, le-leb s.config.chunk_size 2147483647 k, n, free_places s.requests.next s.requests.places a)

@@ -1,10 +1,11 @@
 -- The numbers that document 01 gives to refusals, stages and events.
 -- Assumes nothing.
-use Rattle.std.specs.Prelude.{ℕ}
+use Rattle.std.specs.Prelude.{ℕ, cond, eqb, Result, Ok, Err}
 use Rattle.session.specs.declared.errors.ClientSessionError.{ClientSessionError}
 use Rattle.session.specs.declared.errors.ClientSessionError.TheVariants.{CantConnectWhileAlreadyConnected, SessionInInvalidState, NoKnownActiveStreamIdWhenRequired, CreateStreamFailed, CreateStreamResponseHadNoStreamNumber, InvalidOnStatusArguments, InvalidMaxChunkSize, MalformedBody, Length, EightOpen, Spent, Space, NotASession}
 use Rattle.session.specs.declared.state.ClientState.{ClientState}
 use Rattle.session.specs.declared.state.ClientState.TheVariants.{Disconnected, Connected, PlayRequested, Playing, PublishRequested, Publishing}
+use Rattle.session.specs.declared.state.NoStage.{NoStage}
 use Rattle.session.specs.declared.events.ClientSessionEvent.{ClientSessionEvent}
 use Rattle.session.specs.declared.events.ClientSessionEvent.TheVariants.{ConnectionRequestAccepted, ConnectionRequestRejected, PlaybackRequestAccepted, PublishRequestAccepted, StreamMetadataReceived, VideoDataReceived, AudioDataReceived, UnhandleableAmf0Command, UnknownTransactionResultReceived, UnhandleableOnStatusCode, AcknowledgementReceived, PingResponseReceived}
 
@@ -32,6 +33,17 @@ stage_number PlayRequested = 2
 stage_number Playing = 3
 stage_number PublishRequested = 4
 stage_number Publishing = 5
+
+-- the stage of a number
+unfoldable pub stage_of : ℕ → Result ClientState NoStage
+stage_of n =
+    cond (eqb n (stage_number Disconnected)) (Ok Disconnected)
+    (cond (eqb n (stage_number Connected)) (Ok Connected)
+    (cond (eqb n (stage_number PlayRequested)) (Ok PlayRequested)
+    (cond (eqb n (stage_number Playing)) (Ok Playing)
+    (cond (eqb n (stage_number PublishRequested)) (Ok PublishRequested)
+    (cond (eqb n (stage_number Publishing)) (Ok Publishing)
+    (Err (record {})))))))
 
 -- an event's place in events.rs, counted from 0
 abbrev pub event_place : ClientSessionEvent → ℕ

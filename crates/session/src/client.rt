@@ -81,7 +81,8 @@ impl ClientSession {
         }
     }
 
-    // Play and publish: a createStream for that purpose.
+    // Play and publish: a createStream for that purpose. `connect` has the same lines but for what is written; in one function that write would be
+    // a closure with a contract of its own, longer than these lines.
     fn request_stream(
         &mut self,
         clock: RtmpTimestamp,
@@ -209,10 +210,9 @@ impl ClientSession {
         if !self.progress.state.is_publishing() {
             return Err(ClientSessionError::SessionInInvalidState(self.progress.state));
         }
-        match self.progress.active {
-            None => Err(ClientSessionError::NoKnownActiveStreamIdWhenRequired),
-            Some(stream) => Ok(stream),
-        }
+        self.progress
+            .active
+            .ok_or(ClientSessionError::NoKnownActiveStreamIdWhenRequired)
     }
 
     // Pictures and sound, with the caller's time and droppable flag.

@@ -18,4 +18,4 @@ pub use errors::ClientSessionError;
 pub use events::ClientSessionEvent;
 pub use record::{Called, ClientSession, Link, Progress};
 pub use result::{ClientSessionResult, Outcome, Packet};
-pub use state::ClientState;
+pub use state::{ClientState, NoStage};

@@ -42,8 +42,8 @@ pub struct Called {
 }
 
 impl ClientSession {
-    // Whether refusal 13 doesn't meet the record. It takes a copy: the compiler then sees that a call keeps no address of the record, and moves
-    // none where it needn't.
+    // Whether refusal 13 doesn't meet the record. It takes a copy: a call then passes on no address of the record, and the
+    // compiler needn't move it.
     #[cold]
     #[inline(never)]
     fn is_session(self) -> bool
@@ -61,8 +61,7 @@ impl ClientSession {
         self.config.tc_url.is_none()
             && self.config.chunk_size <= 2147483647
             && is_short(&self.config.flash_version)
-            && 0 < self.requests.next
-            && self.requests.next <= 4294967296
+            && self.requests.next_sound()
             && requests::all_free(&self.requests.places)
     }
 

@@ -1,6 +1,6 @@
 // Stage (document 01), its number, and the tests of it.
 ghost use Rattle.std.specs.Prelude.{◌≡◌};
-ghost use Rattle.session.specs.Numbers.{stage_number};
+ghost use Rattle.session.specs.Numbers.{stage_number, stage_of};
 ghost use Rattle.session.specs.Plan.{is_disconnected, is_connected, is_play, is_publish, is_publishing};
 ghost use Rattle.session.specs.Message.{is_play_requested, is_publish_requested};
 
@@ -23,6 +23,30 @@ impl From<ClientState> for u8 {
 
     fn from(state: ClientState) -> u8 {
         state as u8
+    }
+}
+
+// A number that no stage has.
+#[derive(Clone, Copy, Debug, PartialEq, Eq)]
+pub struct NoStage;
+
+// The stage of that number.
+impl TryFrom<u8> for ClientState {
+    type Error = NoStage;
+
+    ghost try_from_gives = { λ n r. r ≡ stage_of n };
+
+    #[tactic(auto, unfolding(crate::specs::Numbers::stage_of))]
+    fn try_from(number: u8) -> Result<Self, NoStage> {
+        match number {
+            0 => Ok(ClientState::Disconnected),
+            1 => Ok(ClientState::Connected),
+            2 => Ok(ClientState::PlayRequested),
+            3 => Ok(ClientState::Playing),
+            4 => Ok(ClientState::PublishRequested),
+            5 => Ok(ClientState::Publishing),
+            _ => Err(NoStage),
+        }
     }
 }
 

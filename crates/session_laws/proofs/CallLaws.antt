@@ -1,4 +1,4 @@
--- The caller's calls: each walks down its part of the table.
+-- The caller's calls: what the plan of each comes to, case by case.
 -- Assumes nothing.
 use Prim.Native.Nat.{ℕ, ◌+◌, ◌≤◌, ◌<◌}
 use native.Mathlib.Omega.{arith}

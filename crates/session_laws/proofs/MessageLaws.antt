@@ -1,4 +1,4 @@
--- Messages that came: each walks down its part of the table.
+-- Messages that came: what the plan of each comes to, case by case.
 -- Assumes nothing.
 use Prim.Native.Nat.{ℕ, ◌<◌}
 use native.Mathlib.Omega.{arith}

@@ -1,14 +1,12 @@
 -- `Requests::sound` meets its contract: the next number first, then the places.
 -- Assumes nothing.
-use native.Mathlib.Omega.{arith}
-use Rattle.std.proofs.lemmas.Grind.{common_steps}
 use Rattle.requests.specs.Table.{requests_sound}
 use Rattle.requests.proofs.table.Requests.sound.Goals as goal
 
-pub returns-then-self-le4294967296 : goal.returns-then-self-le4294967296
+pub returns-then-next_sound : goal.returns-then-next_sound
 unfolding requests_sound
-returns-then-self-le4294967296 c = grind (arith, common_steps)
+returns-then-next_sound c = rw (← c.next_sound.ensures, c.if-next_sound.true) c.places_sound.ensures
 
-pub returns-else-self-le4294967296 : goal.returns-else-self-le4294967296
+pub returns-else-next_sound : goal.returns-else-next_sound
 unfolding requests_sound
-returns-else-self-le4294967296 c = grind (arith, common_steps)
+returns-else-next_sound c = rw (← c.next_sound.ensures, c.if-next_sound.false)

@@ -6,6 +6,6 @@ use Rattle.std.proofs.Common.{sym, ◌∙◌}
 use Rattle.session.proofs.PlainLaws.{plain-session}
 use Rattle.session.proofs.record.ClientSession.is_plain.Goals as goal
 
-pub returns-then-self-le4294967296 : goal.returns-then-self-le4294967296
-returns-then-self-le4294967296 c =
-    λ h. plain-session c.args.self.now (grind (arith, common_steps)) (grind (arith, common_steps)) (grind (arith, common_steps)) (grind (arith, common_steps)) (grind (arith, common_steps)) (sym c.all_free.ensures ∙ h)
+pub returns-then-next_sound : goal.returns-then-next_sound
+returns-then-next_sound c =
+    λ h. plain-session c.args.self.now (grind (arith, common_steps)) (grind (arith, common_steps)) (grind (arith, common_steps)) (grind (arith, common_steps)) (sym c.all_free.ensures ∙ h)
