@@ -6,6 +6,7 @@ use crate::input::Input;
 use crate::output::Output;
 use crate::results::Results;
 use script::{Line, Why};
+use script_results::Head;
 use script_run::Came;
 use session::{ClientSession, ClientSessionConfig, ClientSessionError, Outcome};
 use std::io;
@@ -71,22 +72,23 @@ impl<'a> Run<'a> {
 
     // The results of the line s.
     fn told(&mut self, s: &[u8], outcome: Result<Outcome, ClientSessionError>) -> io::Result<()> {
-        let line = self.line;
-        let stage = self.session.progress.state;
+        let head = Head {
+            line: self.line,
+            stage: self.session.progress.state,
+        };
         let telling = self.telling;
         // Lent as they came: the check has no rule for a `&` out of the one while the other is lent.
         let out = &mut *self.out;
         let body = &mut *self.body;
         let told = Results {
-            line,
-            stage,
+            head,
             out,
             message: telling.message(body, s),
         };
         told.outcome(&mut self.output, outcome)?;
         match telling {
             Telling::Results => Ok(()),
-            Telling::Values => self.output.open_line(line, &self.session),
+            Telling::Values => self.output.open_line(head, &self.session),
         }
     }
 

@@ -2,6 +2,7 @@
 use crate::output::Output;
 use messages::{PublishRequestType, StreamNumber};
 use requests::{OutstandingTransaction, Place, TransactionPurpose};
+use script_results::Head;
 use session::ClientSession;
 use std::io;
 
@@ -61,9 +62,8 @@ impl Output<'_> {
         Ok(())
     }
 
-    pub(crate) fn open_line(&mut self, line: u64, session: &ClientSession) -> io::Result<()> {
-        let stage = session.progress.state;
-        self.piece(|text, at| script_results::write_open(text, at, line, stage))?;
+    pub(crate) fn open_line(&mut self, head: Head, session: &ClientSession) -> io::Result<()> {
+        self.put(head.open().as_slice())?;
         self.active_stream(session.progress.active)?;
         self.put(b"\t")?;
         self.open_requests(&session.requests.places)?;

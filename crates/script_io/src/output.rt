@@ -42,11 +42,7 @@ impl<'a> Output<'a> {
 
     // Says what is wrong with the line of that number.
     pub(crate) fn unread(&self, line: u64, why: Why) {
-        // No heap is used; no message is longer.
-        let mut text = [0u8; 128];
-        if let Ok(n) = script_results::write_complaint(&mut text, 0, line, why) {
-            self.complain(octets::part(&text, 0, n));
-        }
+        self.complain(script_results::complaint(line, why).as_slice());
     }
 
     // What `write` puts at the place that it is given; 4,096 bytes, more than any piece has, are free there.

@@ -1,16 +1,14 @@
 // Result lines.
 use crate::output::Output;
-use session::{
-    ClientSessionError, ClientSessionEvent, ClientSessionResult, ClientState, Outcome, Packet,
-};
+use script_results::Head;
+use session::{ClientSessionError, ClientSessionEvent, ClientSessionResult, Outcome, Packet};
 use std::io;
 
-// What the results of a line are told with: its number, the stage after it, where bodies of messages to send lie, and, where events are told with
+// What the results of a line are told with: what each begins with, where bodies of messages to send lie, and, where events are told with
 // their values, the body of the message that came.
 #[derive(Debug, PartialEq, Eq, Clone, Copy)]
 pub struct Results<'a> {
-    pub line: u64,
-    pub stage: ClientState,
+    pub head: Head,
     pub out: &'a [u8],
     pub message: Option<&'a [u8]>,
 }
@@ -18,18 +16,14 @@ pub struct Results<'a> {
 impl Results<'_> {
     // A message to send, whose body lies in out.
     fn packet(&self, output: &mut Output<'_>, sent: Packet) -> io::Result<()> {
-        output.piece(|text, at| script_results::write_packet(
-            text, at, self.line, self.stage, sent,
-        ))?;
+        output.put(self.head.packet(sent).as_slice())?;
         output.digits(octets::part(self.out, sent.start, sent.len))?;
         output.put(b"\n")
     }
 
     // An event, with its values where they are told: those that are places lie in the message.
     fn event(&self, output: &mut Output<'_>, raised: ClientSessionEvent) -> io::Result<()> {
-        output.piece(|text, at| script_results::write_event(
-            text, at, self.line, self.stage, raised,
-        ))?;
+        output.put(self.head.event(raised).as_slice())?;
         if let Some(body) = self.message {
             output.values(raised, body)?;
         }
@@ -40,9 +34,9 @@ impl Results<'_> {
         match given {
             ClientSessionResult::OutboundResponse(sent) => self.packet(output, sent),
             ClientSessionResult::RaisedEvent(raised) => self.event(output, raised),
-            ClientSessionResult::UnhandleableMessageReceived(type_id) => output.piece(|text, at| {
-                script_results::write_unhandled(text, at, self.line, self.stage, type_id)
-            }),
+            ClientSessionResult::UnhandleableMessageReceived(type_id) => {
+                output.put(self.head.unhandled(type_id).as_slice())
+            }
         }
     }
 
@@ -53,12 +47,8 @@ impl Results<'_> {
         answer: Result<Outcome, ClientSessionError>,
     ) -> io::Result<()> {
         match answer {
-            Err(error) => output.piece(|text, at| {
-                script_results::write_refused(text, at, self.line, self.stage, error)
-            }),
-            Ok(Outcome::Nothing) => {
-                output.piece(|text, at| script_results::write_none(text, at, self.line, self.stage))
-            }
+            Err(error) => output.put(self.head.refused(error).as_slice()),
+            Ok(Outcome::Nothing) => output.put(self.head.none().as_slice()),
             Ok(Outcome::One(a)) => self.one(output, a),
             Ok(Outcome::Two(a, b)) => {
                 self.packet(output, a)?;

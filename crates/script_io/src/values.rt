@@ -4,14 +4,7 @@ use messages::StreamMetadata;
 use octets::Span;
 use session::ClientSessionEvent;
 use std::io;
-
-// The pattern of a single. That of a NaN is document 01's, whichever the compiled code holds.
-fn pattern_of(x: f32) -> u32 {
-    if x.is_nan() {
-        return 0x7fc0_0000;
-    }
-    x.to_bits()
-}
+use std::num::f32_to_bits_with_nan;
 
 impl Output<'_> {
     fn number_field(&mut self, n: u32) -> io::Result<()> {
@@ -53,11 +46,11 @@ impl Output<'_> {
         Ok(())
     }
 
-    // As 8 digits.
+    // Its pattern as 8 digits. That of a NaN is document 01's, whichever the compiled code holds.
     fn frame_rate(&mut self, value: Option<f32>) -> io::Result<()> {
         if let Some(x) = value {
             self.put(b"\tframerate=")?;
-            self.digits(&pattern_of(x).to_be_bytes())?;
+            self.digits(&f32_to_bits_with_nan(x).to_be_bytes())?;
         }
         Ok(())
     }

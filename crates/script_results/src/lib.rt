@@ -8,8 +8,7 @@ mod reasons;
 mod results;
 
 pub use hex::write_hex;
+pub use line::Line;
 pub use output::write_at;
-pub use reasons::write_complaint;
-pub use results::{
-    write_event, write_none, write_open, write_packet, write_refused, write_unhandled,
-};
+pub use reasons::complaint;
+pub use results::Head;

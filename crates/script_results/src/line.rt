@@ -1,16 +1,13 @@
-// A text that is put together, and then written where all of it fits.
+// The text of a line, which is put together a part at a time.
 ghost use Rattle.std.specs.Prelude.{◌≡◌, ◌+◌, ◌≤◌, [], ◌∷◌, ◌++◌, length};
 ghost use Rattle.script_results.specs.Decimal.{shown};
-ghost use Rattle.script_results.specs.Output.{WrittenAt};
 ghost use Rattle.script_results.specs.Results.{field_text};
 
-use crate::output::write_at;
-use octets::NoSpace;
 use std::marker::Model;
 
-// Clauses see its bytes, of which there are at most 128.
+// Clauses see its bytes, of which there are at most 128. They lie in an array, since no heap is used.
 #[derive(Drop)]
-pub(crate) struct Line {
+pub struct Line {
     bytes: [u8; 128],
     len: usize,
 }
@@ -72,9 +69,9 @@ impl Line {
         self.put_u8(end);
     }
 
-    pub(crate) fn write(&self, out: &mut [u8], at: usize) -> Result<usize, NoSpace>
-        ensures { WrittenAt out.old at self.now out.new result }
+    pub fn as_slice(&self) -> &[u8]
+        ensures { result.now ≡ self.now }
     {
-        write_at(out, at, &self.bytes[..self.len])
+        &self.bytes[..self.len]
     }
 }

@@ -1,10 +1,8 @@
 // How it is told why a line can't be read.
 ghost use Rattle.std.specs.Prelude.{◌≡◌, ◌≤◌, length};
-ghost use Rattle.script_results.specs.Output.{WrittenAt};
 ghost use Rattle.script_results.specs.Complaints.{why_text, complaint};
 
 use crate::line::Line;
-use octets::NoSpace;
 use script::Why;
 
 fn why_text(why: Why) -> &'static [u8]
@@ -27,12 +25,12 @@ fn why_text(why: Why) -> &'static [u8]
 
 // For standard error: what is wrong with the line of that number.
 #[tactic(auto, unfolding(crate::specs::Complaints::complaint))]
-pub fn write_complaint(out: &mut [u8], at: usize, line: u64, why: Why) -> Result<usize, NoSpace>
-    ensures { WrittenAt out.old at (complaint line why) out.new result }
+pub fn complaint(line: u64, why: Why) -> Line
+    ensures { result ≡ complaint line why }
 {
     let mut text = Line::new();
     text.put_bytes(b"card: line ");
     text.put_decimal(line);
     text.put_bytes(why_text(why));
-    text.write(out, at)
+    text
 }
