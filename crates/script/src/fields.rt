@@ -8,7 +8,7 @@ use crate::{decimal, hex, named};
 use octets::Span;
 
 // The fields of a line that are left: the next starts at `next`, and none is left where that is past the line's end.
-#[derive(Clone, Copy, Debug)]
+#[derive(Clone, Copy, Debug, PartialEq, Eq)]
 pub(crate) struct Fields<'a> {
     pub(crate) line: &'a [u8],
     pub(crate) next: usize,

@@ -1,8 +1,7 @@
 // The fields of metadata in a line, read into the record. The encoder's place is one in the line.
-ghost use Rattle.std.specs.Prelude.{◌≡◌, ◌+◌, ◌-◌, ◌≤◌, None, cond, length};
-ghost use Rattle.octets.specs.Compare.{part};
-ghost use Rattle.script.specs.Fields.{fields_after};
-ghost use Rattle.script.specs.Metadata.{check_fields, value_in, last_value, whole_at, rate_at, flag_at, metadata_of, metadata_fields, metadata_line};
+ghost use Rattle.std.specs.Prelude.{◌≡◌, ◌+◌, ◌≤◌, None, length};
+ghost use Rattle.script.specs.Fields.{left};
+ghost use Rattle.script.specs.Metadata.{check_fields, value_in, last_value, whole_at, rate_at, flag_at, metadata_of, metadata_line};
 
 use crate::fields::{Fields, bare};
 use crate::reasons::Why;
@@ -10,11 +9,10 @@ use crate::{decimal, named};
 use messages::StreamMetadata;
 use octets::Span;
 
-// What is wrong with the fields after `to`.
-fn check_fields(s: &[u8], to: usize) -> Result<(), Why>
-    ensures { result ≡ check_fields (fields_after s.now to) }
+// What is wrong with the fields.
+fn check_fields(mut fields: Fields) -> Result<(), Why>
+    ensures { result ≡ check_fields (left fields.entry) }
 {
-    let mut fields = Fields::after(s, to);
     while let Ok(word) = fields.word() {
         named::check_field(word)?;
     }
@@ -34,11 +32,10 @@ fn value_in(field: &[u8], start: usize, name: &[u8]) -> Option<Span>
 
 // Of equal names the later holds.
 #[tactic(auto, using(crate::proofs::MetadataLaws::last_more, crate::proofs::MetadataLaws::last_end))]
-fn last_value(s: &[u8], to: usize, name: &[u8]) -> Option<Span>
-    ensures { result ≡ last_value name.now (fields_after s.now to) None }
+fn last_value(mut fields: Fields, name: &[u8]) -> Option<Span>
+    ensures { result ≡ last_value name.now (left fields.entry) None }
 {
     let mut best = None;
-    let mut fields = Fields::after(s, to);
     loop {
         let start = fields.next;
         let Ok(field) = fields.word() else {
@@ -48,53 +45,48 @@ fn last_value(s: &[u8], to: usize, name: &[u8]) -> Option<Span>
     }
 }
 
-// The value of that name, if it has one that can be read. One function over the three readers would be no plainer.
-fn whole(s: &[u8], to: usize, name: &[u8]) -> Option<u32>
-    ensures { result ≡ whole_at s.now (last_value name.now (fields_after s.now to) None) }
+// The value of that name, if it has one that can be read. With one function that is given the reader, each of the ten calls below would name its reader too.
+fn whole(fields: Fields, name: &[u8]) -> Option<u32>
+    ensures { result ≡ whole_at fields.entry.line.now (last_value name.now (left fields.entry) None) }
 {
-    decimal::number(last_value(s, to, name)?.part_of(s))
+    decimal::number(last_value(fields, name)?.part_of(fields.line))
 }
 
-fn rate(s: &[u8], to: usize, name: &[u8]) -> Option<f32>
-    ensures { result ≡ rate_at s.now (last_value name.now (fields_after s.now to) None) }
+fn rate(fields: Fields, name: &[u8]) -> Option<f32>
+    ensures { result ≡ rate_at fields.entry.line.now (last_value name.now (left fields.entry) None) }
 {
-    named::rate_of(last_value(s, to, name)?.part_of(s))
+    named::rate_of(last_value(fields, name)?.part_of(fields.line))
 }
 
-fn flag(s: &[u8], to: usize, name: &[u8]) -> Option<bool>
-    ensures { result ≡ flag_at s.now (last_value name.now (fields_after s.now to) None) }
+fn flag(fields: Fields, name: &[u8]) -> Option<bool>
+    ensures { result ≡ flag_at fields.entry.line.now (last_value name.now (left fields.entry) None) }
 {
-    named::flag(whole(s, to, name)?)
+    named::flag(whole(fields, name)?)
 }
 
-fn values(s: &[u8], to: usize) -> StreamMetadata
-    ensures { result ≡ metadata_of s.now (fields_after s.now to) }
+fn values(fields: Fields) -> StreamMetadata
+    ensures { result ≡ metadata_of fields.entry.line.now (left fields.entry) }
 {
     StreamMetadata {
-        video_width: whole(s, to, b"width="),
-        video_height: whole(s, to, b"height="),
-        video_codec_id: whole(s, to, b"videocodecid="),
-        video_frame_rate: rate(s, to, b"framerate="),
-        video_bitrate_kbps: whole(s, to, b"videodatarate="),
-        audio_codec_id: whole(s, to, b"audiocodecid="),
-        audio_bitrate_kbps: whole(s, to, b"audiodatarate="),
-        audio_sample_rate: whole(s, to, b"audiosamplerate="),
-        audio_channels: whole(s, to, b"audiochannels="),
-        audio_is_stereo: flag(s, to, b"stereo="),
-        encoder: last_value(s, to, b"encoder="),
+        video_width: whole(fields, b"width="),
+        video_height: whole(fields, b"height="),
+        video_codec_id: whole(fields, b"videocodecid="),
+        video_frame_rate: rate(fields, b"framerate="),
+        video_bitrate_kbps: whole(fields, b"videodatarate="),
+        audio_codec_id: whole(fields, b"audiocodecid="),
+        audio_bitrate_kbps: whole(fields, b"audiodatarate="),
+        audio_sample_rate: whole(fields, b"audiosamplerate="),
+        audio_channels: whole(fields, b"audiochannels="),
+        audio_is_stereo: flag(fields, b"stereo="),
+        encoder: last_value(fields, b"encoder="),
     }
-}
-
-fn read_fields(s: &[u8], to: usize) -> Result<StreamMetadata, Why>
-    ensures { result ≡ metadata_fields s.now (fields_after s.now to) }
-{
-    check_fields(s, to)?;
-    Ok(values(s, to))
 }
 
 // The fields of the line s, without its newline, after the place that its Line names.
 pub fn read_metadata(s: &[u8], to: usize) -> Result<StreamMetadata, Why>
     ensures { result ≡ metadata_line s.now to }
 {
-    read_fields(bare(s), to)
+    let fields = Fields::after(bare(s), to);
+    check_fields(fields)?;
+    Ok(values(fields))
 }
