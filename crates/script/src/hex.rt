@@ -28,6 +28,7 @@ pub(crate) fn is_hex(s: &[u8]) -> bool
     s.len() % 2 == 0 && s.iter().all(|b| digit_value(*b).is_some())
 }
 
+// By index: of a loop over the output's bytes beside `s.chunks_exact(2)`, what the output holds after it was not proved.
 #[tactic(auto, using(crate::proofs::HexLaws::pair_step, crate::proofs::HexLaws::pair_end), unfolding(crate::specs::Hex::pair_value))]
 fn decode(s: &[u8], out: &mut [u8])
     requires { length s.now ≤ 2 * length out.old }

@@ -15,9 +15,7 @@ use messages::{RtmpTimestamp, StreamNumber};
 fn msg_line(fields: &mut Fields, clock: RtmpTimestamp) -> Result<Line, Why>
     ensures { result ≡ msg_line clock (left fields.old) }
 {
-    let Ok(type_id) = u8::try_from(fields.number()?) else {
-        return Err(Why::Number);
-    };
+    let type_id = u8::try_from(fields.number()?).map_err(|_| Why::Number)?;
     let time = RtmpTimestamp(fields.number()?);
     let stream = StreamNumber(fields.number()?);
     let body = fields.hex()?;
