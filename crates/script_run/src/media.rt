@@ -1,21 +1,20 @@
-// The calls with a body or with metadata. A body's digits are a place in the line s, and are decoded into the lent `body` first. Each call has a function of
-// its own: through one that is given the call as a closure a line takes 0.3 µs more.
+// The calls with a body or with metadata. A body's digits are decoded into the lent `body` first. Each call has a function of its own: through one that is
+// given the call as a closure a line takes 0.3 µs more.
 ghost use Rattle.std.specs.Prelude.{◌≡◌, Ok, Err, MatchResult, length};
 ghost use Rattle.session.specs.Calls.{picture, sound, message};
 ghost use Rattle.script.specs.Metadata.{metadata_line};
-ghost use Rattle.script_run.specs.Asked.{text_at, body_of, with_body, with_metadata, Runs};
+ghost use Rattle.script_run.specs.Asked.{body_of, with_body, with_metadata, Runs};
 
 use crate::told::{Ran, apart};
 use messages::{RtmpTimestamp, StreamNumber};
-use octets::Span;
 use script::Why;
 use session::ClientSession;
 
 // The bytes that the digits stand for, at the start of `body`; or why they can't be decoded.
-fn decode<'a>(s: &[u8], at: Span, body: &'a mut [u8]) -> Result<&'a [u8], Why>
-    ensures { MatchResult result (λ b. body_of (length body.old) (text_at s.now at) ≡ Ok b.now) (λ w. body_of (length body.old) (text_at s.now at) ≡ Err w) }
+fn decode<'a>(digits: &[u8], body: &'a mut [u8]) -> Result<&'a [u8], Why>
+    ensures { MatchResult result (λ b. body_of (length body.old) digits.now ≡ Ok b.now) (λ w. body_of (length body.old) digits.now ≡ Err w) }
 {
-    let n = script::unhex(at.part_of(s), body)?;
+    let n = script::unhex(digits, body)?;
     Ok(octets::part(body, 0, n))
 }
 
@@ -26,14 +25,13 @@ pub(crate) fn handle_message(
     type_id: u8,
     time: RtmpTimestamp,
     stream: StreamNumber,
-    s: &[u8],
-    at: Span,
+    digits: &[u8],
     body: &mut [u8],
     out: &mut [u8],
 ) -> Ran
-    ensures { Runs session out.old (with_body clock (message type_id time stream) (body_of (length body.old) (text_at s.now at))) result out.new }
+    ensures { Runs session out.old (with_body clock (message type_id time stream) (body_of (length body.old) digits.now)) result out.new }
 {
-    match decode(s, at, body) {
+    match decode(digits, body) {
         Ok(data) => Ran::from(session.handle_message(clock, type_id, time, stream, data, out)),
         Err(why) => apart(session, Err(why)),
     }
@@ -45,14 +43,13 @@ pub(crate) fn publish_video(
     clock: RtmpTimestamp,
     time: RtmpTimestamp,
     droppable: bool,
-    s: &[u8],
-    at: Span,
+    digits: &[u8],
     body: &mut [u8],
     out: &mut [u8],
 ) -> Ran
-    ensures { Runs session out.old (with_body clock (λ b. picture b time droppable) (body_of (length body.old) (text_at s.now at))) result out.new }
+    ensures { Runs session out.old (with_body clock (λ b. picture b time droppable) (body_of (length body.old) digits.now)) result out.new }
 {
-    match decode(s, at, body) {
+    match decode(digits, body) {
         Ok(data) => Ran::from(session.publish_video_data(clock, data, time, droppable, out)),
         Err(why) => apart(session, Err(why)),
     }
@@ -64,14 +61,13 @@ pub(crate) fn publish_audio(
     clock: RtmpTimestamp,
     time: RtmpTimestamp,
     droppable: bool,
-    s: &[u8],
-    at: Span,
+    digits: &[u8],
     body: &mut [u8],
     out: &mut [u8],
 ) -> Ran
-    ensures { Runs session out.old (with_body clock (λ b. sound b time droppable) (body_of (length body.old) (text_at s.now at))) result out.new }
+    ensures { Runs session out.old (with_body clock (λ b. sound b time droppable) (body_of (length body.old) digits.now)) result out.new }
 {
-    match decode(s, at, body) {
+    match decode(digits, body) {
         Ok(data) => Ran::from(session.publish_audio_data(clock, data, time, droppable, out)),
         Err(why) => apart(session, Err(why)),
     }

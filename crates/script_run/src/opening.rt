@@ -13,10 +13,7 @@ use session::{ClientSession, ClientSessionConfig};
 fn url_at(s: &[u8], text: Option<Span>) -> Option<Text>
     ensures { result ≡ url_at s.now text }
 {
-    match text {
-        Some(at) => Some(Text::new(at.part_of(s))),
-        None => None,
-    }
+    text.map(|at| Text::new(at.part_of(s)))
 }
 
 #[tactic(auto, unfolding(crate::specs::Asked::config_of))]

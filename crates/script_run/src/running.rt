@@ -22,21 +22,22 @@ pub fn run_line(session: ClientSession, s: &[u8], body: &mut [u8], out: &mut [u8
         Line::Space(n) => apart(session, Ok(Came::Space(n))),
         Line::Bytes(clock, count) => making::handle_bytes(session, clock, count, out),
         Line::Msg(clock, type_id, time, stream, at) => {
-            media::handle_message(session, clock, type_id, time, stream, s, at, body, out)
+            let digits = at.part_of(s);
+            media::handle_message(session, clock, type_id, time, stream, digits, body, out)
         }
-        Line::Connect(clock, at) => making::request_connection(session, clock, s, at, out),
-        Line::Play(clock, at) => making::request_playback(session, clock, s, at, out),
+        Line::Connect(clock, at) => making::request_connection(session, clock, at.part_of(s), out),
+        Line::Play(clock, at) => making::request_playback(session, clock, at.part_of(s), out),
         Line::Publish(clock, at, kind) => {
-            making::request_publishing(session, clock, s, at, kind, out)
+            making::request_publishing(session, clock, at.part_of(s), kind, out)
         }
         Line::StopPlayback(clock) => making::stop_playback(session, clock, out),
         Line::StopPublishing(clock) => making::stop_publishing(session, clock, out),
         Line::Ping(clock) => making::send_ping(session, clock, out),
         Line::Video(clock, time, droppable, at) => {
-            media::publish_video(session, clock, time, droppable, s, at, body, out)
+            media::publish_video(session, clock, time, droppable, at.part_of(s), body, out)
         }
         Line::Audio(clock, time, droppable, at) => {
-            media::publish_audio(session, clock, time, droppable, s, at, body, out)
+            media::publish_audio(session, clock, time, droppable, at.part_of(s), body, out)
         }
         Line::Metadata(clock, to) => media::publish_metadata(session, clock, s, to, out),
         Line::OpenDefault => opening::open(session, ClientSessionConfig::new()),
