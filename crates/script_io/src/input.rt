@@ -4,7 +4,7 @@ ghost use Rattle.std.specs.Prelude.{◌≡◌, ◌≤◌, length};
 use std::io;
 use std::io::{Read, Stdin};
 
-// The first `held` bytes of buf are at hand.
+// The first `held` bytes of buf are at hand; no heap is used.
 #[derive(Drop)]
 pub struct Input<'a> {
     stdin: Stdin,

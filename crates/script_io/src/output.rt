@@ -3,7 +3,7 @@ use octets::NoSpace;
 use script::Why;
 use std::io::{Print, Result, Stderr, Stdout};
 
-// The first `used` bytes of the text wait. Messages go to `stderr`.
+// The first `used` bytes of the text wait; no heap is used. Messages go to `stderr`.
 #[derive(Drop)]
 pub struct Output<'a> {
     text: &'a mut [u8],
