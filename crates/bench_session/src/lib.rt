@@ -108,7 +108,8 @@ pub extern "C" fn bench_message(
     sum
 }
 
-// Messages come in, each on the session that is lent to the call. A picture and sound write nothing, so the output has no bytes.
+// Messages come in, each on the session that is lent to the call. A picture and sound write nothing, so the output has no bytes. Its own loop, as
+// `repeated` makes calls that take the session by value.
 fn lent(mut session: ClientSession, rounds: u32, type_id: u8, body: &[u8]) -> u64 {
     let mut sum: u64 = 0;
     for i in 0..rounds {
@@ -175,7 +176,8 @@ fn connected(
     }
 }
 
-// Each time from Disconnected with 1 as the next number. Its own loop, since a turn is two calls, and what `connected` answers is counted.
+// Each time from Disconnected with 1 as the next number. Its own loop, since a turn is two calls: a closure that
+// answers `Answered`, for all five loops, took 919 to 960 ns for a turn in place of 628.
 #[unsafe(no_mangle)]
 pub extern "C" fn bench_connect(
     rounds: u32,
