@@ -17,3 +17,4 @@ pub mod SentLaws
 pub mod AcknowledgedLaws
 pub mod NumberedLaws
 pub mod Sizes
+pub mod StageLaws
