@@ -10,6 +10,7 @@ use borrow.Author.Tests.{leb-true, leb-false, eq-eqb, ne_eqb}
 use lib.Dec.{T, leb, eqb, lit≤}
 use lib.Pow.{pow_pos}
 use lib.Ieee.{Float, nan, inf, fin, Format, binary32, binary64, low, hid, ones, top, up, down, round, fits, of_bits, to_bits}
+use lib.Ieee.Bits.{of_bits-to_bits}
 use lib.Ieee.Exact.{HasValue}
 use lib.Ieee.Fits.{down_pos, round-fits}
 use lib.Ieee.Nearest.{closest}
@@ -24,6 +25,10 @@ unfolding narrowed fits
 narrowed-fits nan = tt
 narrowed-fits (inf s) = tt
 narrowed-fits (fin s m e) = round-fits binary32 s (m * up e) (down e)
+
+-- a single's pattern is read back as the single that it is of
+pub read_back : (v : Float) (p : ℕ) → p ≡ to_bits binary32 (narrowed v) → of_bits binary32 p ≡ narrowed v
+read_back v p e = ap (of_bits binary32) e ∙ of_bits-to_bits binary32 _ (narrowed-fits v)
 
 -- ---- of a pattern of either format
 value : (v : Float) (s : Bool) (a c : ℕ) → 0 < c → HasValue v s a c → narrowed v ≡ round binary32 s a c

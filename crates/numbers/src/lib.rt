@@ -94,6 +94,7 @@ pub fn narrow_bits(bits: u64) -> u32
 
 // The single nearest to the Number. The logic has one NaN, so no proof says which NaN pattern the compiled f32 holds: what is printed or sent goes by
 // narrow_bits, widen_bits and widen, which give every NaN one pattern.
+#[tactic(auto, using(crate::proofs::NarrowLaws::read_back))]
 pub fn narrow(bits: u64) -> f32
     ensures { result ≡ narrowed (of_bits binary64 bits) }
 {
