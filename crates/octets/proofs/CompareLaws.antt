@@ -6,8 +6,10 @@ use mathlib.Core.Bool.{Bool, true, false, cond}
 use mathlib.Core.List.{List, [], ◌∷◌}
 use lib.Dec.{eqb}
 use lib.Pointwise.{pointwise}
+use lib.Seq.{take-length}
 use Rattle.std.specs.Cmp.Lexicographic.{same_text, other_text}
 use borrow.Author.Tests.{eq-eqb, eqb-true}
+use native.Mathlib.Nat.{sub-zero}
 use native.Mathlib.Omega.{arith}
 use Rattle.octets.specs.Compare.{same}
 
@@ -47,3 +49,9 @@ pointwise_same a b = go (pointwise eqb a b) refl
     go : (t : Bool) → t ≡ pointwise eqb a b → t ≡ same a b
     go true e = sym (eq-same (same_text a b e))
     go false e = sym (ne_same a b (other_text a b e))
+
+-- A part of a list that is all of it. The code as it stands needs none of this: with it, a fault that looks at a part is refused for the bytes that it
+-- leaves out, and not for being a part.
+pub ruleset as_whole = (take-length, sub-zero)
+
+pub ruleset equality = (pointwise_same, as_whole)

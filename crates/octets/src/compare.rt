@@ -12,6 +12,7 @@ pub fn part(s: &[u8], start: usize, len: usize) -> &[u8]
     rest.get(..len).unwrap_or(rest)
 }
 
+#[tactic(auto, using(crate::proofs::CompareLaws::equality))]
 pub fn same(a: &[u8], b: &[u8]) -> bool
     ensures { result ≡ same_of a.now b.now }
 {
