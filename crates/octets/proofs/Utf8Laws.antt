@@ -2,7 +2,7 @@
 -- Assumes nothing.
 use Prim.Native.Nat.{ℕ, ◌≤◌}
 use mathlib.Core.Bool.{Bool, true, false, ◌&&◌, ◌||◌, or-false, or-true, false≢true}
-use mathlib.Core.List.{List, [], ◌∷◌, ◌++◌, head-eq_of_cons-eq, tail-eq_of_cons-eq}
+use mathlib.Core.List.{List, [], ◌∷◌, ◌++◌, append_assoc, head-eq_of_cons-eq, tail-eq_of_cons-eq}
 use mathlib.Core.List.{Memᴰ}
 use mathlib.Core.Logic.{◌⊎◌, inl, inr, ⊎_elim}
 use mathlib.Core.Path.{◌≡◌, refl, ◌∙◌}
@@ -115,9 +115,16 @@ unfolding utf8 octets
 meant none = refl
 meant (char row c s m e o) = one_more row c s m e (meant o)
 
--- Texts that are UTF-8: the empty one, and one of bytes below 128.
+-- Texts that are UTF-8: the empty one, one after another, and one of bytes below 128.
 pub utf8_nil : utf8 [] ≡ true
 utf8_nil = meant none
+
+append : {a b : List ℕ} → Octets a → Octets b → Octets (a ++ b)
+append none q = q
+append (char row c s m e o) q = rw append_assoc (char row c _ m e (append o q))
+
+pub utf8_append : (a b : List ℕ) → utf8 a ≡ true → utf8 b ≡ true → utf8 (a ++ b) ≡ true
+utf8_append a b p q = meant (append (means a p) (means b q))
 
 abbrev pub all_ascii : List ℕ → Bool
 all_ascii [] = true
