@@ -11,12 +11,15 @@ use Rattle.std.specs.Prelude.{Result, Ok, Err}
 use Rattle.octets.specs.Parse.{Parse, bad, got, place_of}
 use Rattle.octets.specs.BigEndian.{uint}
 use Rattle.octets.specs.Compare.{part}
+use Rattle.octets.specs.Span.{span}
+use Rattle.octets.specs.declared.span.Span.{Span}
 use Rattle.amf0.specs.Value.{Value, number, boolean, text, object, null, undefined, strict}
 use Rattle.amf0.specs.Decode.{text_of, plainly, object_of, values, content, marker, value}
 use Rattle.amf0.specs.Places.{malformed, text_place, kind_after, kind_at, kind_of}
 use Rattle.amf0.specs.declared.marker.Marker.{Marker}
 use Rattle.amf0.specs.declared.marker.Marker.TheVariants.{Number, Boolean, Text, Object, Null, Undefined, EcmaArray, StrictArray}
 use Rattle.amf0.specs.declared.kinds.Kind.{Kind}
+use Rattle.amf0.specs.declared.kinds.Kind.TheVariants as kind
 use Rattle.amf0.specs.declared.read.Malformed.{Malformed}
 use Rattle.amf0.proofs.CutLaws.{clash, steps, wrapped, marker-got}
 use Rattle.amf0.proofs.PlaceLaws.{MarkerRead}
@@ -62,6 +65,15 @@ text-lies d s at {t} {r} e =
     let h = text-after (value d) t r i.what i.rest i.two in
     let x : i.rest ≡ drop (at + 1) s = (marker-got (drop at s) i.one).1 ∙ drop-drop 1 at s in
     text-part s (at + 1) (ap text_of (sym x) ∙ h)
+
+-- so the part of s at the place that `kind_at` answers is the text
+pub text-told : (d : ℕ) (s : List ℕ) (at : ℕ) {t r : List ℕ} {p : Span} → value (suc d) (drop at s) ≡ got (text t) r
+    → Ok (kind.Text p) ≡ kind_at s (drop at s) → part s p.start p.len ≡ t
+unfolding kind_of
+text-told d s at {t} {r} {p} e k =
+    let q : ◌≡◌ {A = Result Kind Malformed} (Ok (kind.Text p)) (Ok (kind.Text (span (place_of s r - length t) (length t)))) = k ∙ told d s (drop at s) e in
+    let i : p ≡ span (place_of s r - length t) (length t) = cc in
+    rw i (text-lies d s at e)
 
 -- the kind at a place, by its marker
 pub kind-is : (s : List ℕ) (at : ℕ) {k : Marker} → MarkerRead s at k → kind_after s k (drop (at + 1) s) ≡ kind_at s (drop at s)
