@@ -77,7 +77,7 @@ pub fn of(outcome: Result<Outcome, ClientSessionError>, out: &[u8]) -> u64 {
     }
 }
 
-// A sum and the same of an outcome, for messages that raise an event or nothing: by `of` a lent picture takes 21 ns in place of 4.
+// A sum and the same of an outcome, for messages that raise an event or nothing: by `of` a lent picture takes 20 to 25 ns in place of 8.
 pub fn raised(before: u64, outcome: Result<Outcome, ClientSessionError>) -> u64 {
     match outcome {
         Ok(Outcome::Nothing) => before,

@@ -108,11 +108,13 @@ pub extern "C" fn bench_message(
     sum
 }
 
-// Messages come in, each on the session that is lent to the call. A picture and sound write nothing, so the output has no bytes. Its own loop, as
-// `repeated` makes calls that take the session by value.
+// Messages come in, each on the session that is lent to the call. A picture and sound write nothing, so the output has no bytes, and change
+// nothing: the next number, which refusal 13 reads, rises with the turns, as the compiler would else make the test once and compute the sum. Its own
+// loop, as `repeated` makes calls that take the session by value.
 fn lent(mut session: ClientSession, rounds: u32, type_id: u8, body: &[u8]) -> u64 {
     let mut sum: u64 = 0;
     for i in 0..rounds {
+        session.requests.next = session.requests.next.max(u64::from(i));
         let time = RtmpTimestamp(i);
         let outcome = borrowing::handle_message(
             &mut session,
