@@ -1,7 +1,7 @@
 -- `messages::amf0_command::amf0_command` meets its contract: part by part, up to the first that is missing.
 -- Assumes nothing.
-use Rattle.std.proofs.Common.{◌≡◌, ℕ, List, Bor, refl, sym, ap, ◌∙◌}
-use Rattle.std.specs.Prelude.{Some}
+use Rattle.std.proofs.Common.{◌≡◌, ℕ, List, Bor, rules, refl, sym, ap, ◌∙◌}
+use Rattle.std.specs.Prelude.{Some, Ok}
 use Rattle.amf0.specs.Places.{text_told}
 use Rattle.amf0.proofs.PlaceLaws.{err-is, ok-or-some, ok-or-none}
 use Rattle.reader.proofs.TakenLaws.{ReadAt, read_at}
@@ -63,19 +63,21 @@ returns-in_err-read_value-3 c =
     let b = goal.at.returns-in_err-read_value-3 c in
     err-is _ c.from_residual-in_err-read_value-3.ensures.0
     ∙ no-object _ _ (first b.After-read_value) _ (name-told b.In_ok-name_at) (second b.After-read_value-2) _ (number-told b.In_ok-number)
-    (third b.After-read_value-3) c.in_err-read_value-3.was
+    (third b.After-read_value-3) (search rules)
 
 pub returns-in_err-count_values : goal.returns-in_err-count_values
 returns-in_err-count_values c =
     let b = goal.at.returns-in_err-count_values c in
+    let w : c.read_value-3.result ≡ Ok c.in_ok-read_value-3.field-0 = search rules in
     err-is _ c.from_residual-in_err-count_values.ensures.0
     ∙ no-values _ _ (first b.After-read_value) _ (name-told b.In_ok-name_at) (second b.After-read_value-2) _ (number-told b.In_ok-number)
-    (third b.After-read_value-3) c.in_ok-read_value-3.was (all_there _ _ c.in_err-count_values.ensures)
+    (third b.After-read_value-3) w (all_there _ _ c.in_err-count_values.ensures)
 
 pub returns : goal.returns
 returns c =
     let b = goal.at.returns c in
+    let w : c.read_value-3.result ≡ Ok c.in_ok-read_value-3.field-0 = search rules in
     let a = all_there _ _ c.in_ok-count_values.ensures in
     rw (c.command_name.ensures, c.argument_at.ensures, first_told c.args.body.now _ a.all a.ended)
     (command-is _ _ (first b.After-read_value) _ (name-told b.In_ok-name_at) (second b.After-read_value-2) _ (number-told b.In_ok-number)
-    (third b.After-read_value-3) c.in_ok-read_value-3.was a.all a.read)
+    (third b.After-read_value-3) w a.all a.read)

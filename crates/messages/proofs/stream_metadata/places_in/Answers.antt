@@ -1,9 +1,10 @@
 -- `messages::stream_metadata::places_in` meets its contract. The loop keeps that the last property of each field's name is the last from i on, or
 -- else the one whose place is kept.
 -- Assumes nothing.
-use Rattle.std.proofs.Common.{◌≡◌, arith, sym, ap, ◌∙◌}
-use Rattle.std.specs.Prelude.{Some, None, Ok}
+use Rattle.std.proofs.Common.{◌≡◌, rules, arith, sym, ap, ◌∙◌}
+use Rattle.std.specs.Prelude.{Some, None, Ok, Err}
 use Rattle.octets.specs.Compare.{part}
+use Rattle.amf0.specs.Places.{malformed}
 use Rattle.amf0.proofs.FindLaws.{PropertyRead, property-says}
 use Rattle.amf0.proofs.PlaceLaws.{err-is}
 use Rattle.messages.specs.Metadata.{field_index}
@@ -13,7 +14,7 @@ use Rattle.messages.proofs.stream_metadata.places_in.Goals.{In-Some, In-Some-fie
 
 -- the property that was read
 read : (c : In-Some) → PropertyRead c.args.body.now c.loop-name.i c.in-Some.field-0.name.start c.in-Some.field-0.name.len c.in-Some.field-0.next
-read c = property-says c.args.body.now c.loop-name.i (Ok (Some c.in-Some.field-0)) (ap Ok (sym c.in-Some.is) ∙ c.in_ok-name.ensures)
+read c = property-says c.args.body.now c.loop-name.i (Ok (Some c.in-Some.field-0)) (search rules)
 
 -- the field whose name it has
 index : (c : In-Some-field_index)
@@ -22,7 +23,7 @@ index c = sym c.in-Some-field_index.is ∙ c.field_index.ensures ∙ ap field_in
 
 pub returns-in_err-name : goal.returns-in_err-name
 returns-in_err-name c =
-    err-is _ c.from_residual.ensures.0 ∙ none_kept c.args.body.now c.loop-name.invariant (property-says c.args.body.now c.loop-name.i _ c.in_err-name.ensures)
+    err-is _ c.from_residual.ensures.0 ∙ none_kept c.args.body.now c.loop-name.invariant (property-says c.args.body.now c.loop-name.i (Err malformed) (search rules))
 
 pub overflow_add-places : goal.overflow_add-places
 overflow_add-places c = omega (arith, (read (goal.at.overflow_add-places c).In-Some).named.within)
@@ -54,4 +55,4 @@ loop-name-preserved c =
 pub returns : goal.returns
 returns c =
     kept c.args.body.now c.loop-name.invariant
-    (property-says c.args.body.now c.loop-name.i (Ok None) (ap Ok (sym c.in_default.is) ∙ c.in_ok-name.ensures)).1
+    (property-says c.args.body.now c.loop-name.i (Ok None) (search rules)).1
