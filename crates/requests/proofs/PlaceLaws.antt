@@ -150,7 +150,7 @@ lookup-set m p o (q ∷ ps) zero f =
     shut-held m p.request p.text (lookup m ps) o ∙ sym (shut-held m q.request q.text (lookup m ps) (free_shut m q.request f))
 lookup-set m p o (q ∷ ps) (suc i) f = ap (held_by m q.request q.text) (lookup-set m p o ps i f)
 
--- any place set to the request n, where n was in None
+-- any place set to the request n, where n was in none
 lookup-new : (n : ℕ) (k : OutstandingTransaction) (t : Text) (ps : List Place) (i : ℕ) → i < length ps → has_number n ps ≡ false
     → lookup n (set ps i (opened n k t)) ≡ Some (record { kind = k; text = t })
 unfolding has_number lookup

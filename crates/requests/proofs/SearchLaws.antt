@@ -58,12 +58,12 @@ first-of n m r e =
     (λ u. let l = ltb-false n m u in rw (e, u) l)
 
 -- a turn of the loop over the places: those from i on are sound exactly if the one there is, and those after it are
-pub sound-turn : (next : ℕ) (ps : List Place) (i : ℕ) {b : Bool} → i < length ps
-    → b ≡ place_sound next (get_or ps i no-place).request (get_or ps i no-place).text (take (length ps - (i + 1)) (drop (i + 1) ps))
-    → places_sound next (drop i ps) ≡ (b && places_sound next (drop (i + 1) ps))
+pub sound-turn : (next : ℕ) (ps : List Place) (i : ℕ) {j : ℕ} {b : Bool} → i < length ps
+    → b ≡ place_sound next (get_or ps i no-place).request (get_or ps i no-place).text (take (length ps - j) (drop j ps))
+    → j ≡ i + 1 → places_sound next (drop i ps) ≡ (b && places_sound next (drop (i + 1) ps))
 unfolding places_sound
-sound-turn next ps i h e =
-    rw (e, take_all (length ps - (i + 1)) (drop (i + 1) ps) (simp length-drop (omega arith)), add-one, drop-cons ps i no-place h)
+sound-turn next ps i h e n =
+    rw (e, n, take_all (length ps - (i + 1)) (drop (i + 1) ps) (simp length-drop (omega arith)), add-one, drop-cons ps i no-place h)
 
 -- a turn of the loop that closes: the place at i is emptied if it is open under the number
 pub close-turn : (n : ℕ) (xs ys : List Place) (i : ℕ) {zs : List Place} {b : Bool} → i < length xs → length ys ≡ length xs

@@ -8,10 +8,10 @@ use Rattle.requests.proofs.SearchLaws.{sound-turn}
 use Rattle.requests.proofs.place.each_sound.Goals as goal
 
 pub returns-then-not-sound : goal.returns-then-not-sound
-returns-then-not-sound c = sym (c.loop-i.invariant ∙ sound-turn c.args.next c.args.places.now c.loop-i.i (omega arith) c.if-not-sound.ensures)
+returns-then-not-sound c = sym (c.loop-i.invariant ∙ sound-turn c.args.next c.args.places.now c.loop-i.i (omega arith) c.if-not-sound.ensures (omega arith))
 
 pub loop-i-preserved : goal.loop-i-preserved
-loop-i-preserved c = c.loop-i.invariant ∙ sound-turn c.args.next c.args.places.now c.loop-i.i (omega arith) c.if-not-sound.ensures
+loop-i-preserved c = c.loop-i.invariant ∙ sound-turn c.args.next c.args.places.now c.loop-i.i (omega arith) c.if-not-sound.ensures (omega arith)
 
 pub returns : goal.returns
 unfolding places_sound
