@@ -15,7 +15,7 @@ use Rattle.std.specs.Result.{result_unwrap_or}
 use Rattle.std.proofs.lemmas.List.Quantifiers.{position-Some}
 use Rattle.octets.specs.Parse.{Parse, bad, got}
 use Rattle.octets.specs.Compare.{same, part}
-use Rattle.octets.proofs.CompareLaws.{ne_same}
+use Rattle.octets.proofs.CompareLaws.{same-eq, ne_same}
 use Rattle.amf0.specs.Decode.{Property, object_of, value}
 use Rattle.amf0.specs.Lookup.{last_of, properties_at}
 use Rattle.amf0.specs.Places.{malformed, start_at, found_at, found_of}
@@ -54,6 +54,9 @@ map_at f (x ∷ xs) (suc k) h = map_at f xs k (omega arith)
 own_index : (k : ℕ) → k < 11 → field_index (name_at k) ≡ Some k
 own_index k h =
     sym (map_at field_index field_names k h) ∙ ap (λ (l : List (Option ℕ)). get_or l k None) own_indices ∙ number_at 0 11 k h ∙ ap Some (omega arith)
+
+pub own_name : (n : List ℕ) (k : ℕ) → k < 11 → same n (name_at k) ≡ true → Some k ≡ field_index n
+own_name n k h e = sym (ap field_index (same-eq n (name_at k) e) ∙ own_index k h)
 
 other_name : (n : List ℕ) (k : ℕ) → k < 11 → (field_index n ≡ Some k → ⊥) → same n (name_at k) ≡ false
 other_name n k h ne = ne_same n (name_at k) (λ e. ne (ap field_index e ∙ own_index k h))
