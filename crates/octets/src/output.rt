@@ -93,7 +93,11 @@ impl<'a> Writer<'a> {
         ensures value { self.new.at ≡ self.old.at + length src.now }
     {
         let end = self.at + src.len();
-        self.out[self.at..end].copy_from_slice(src);
+        let to = &mut self.out[self.at..end];
+        // A loop: the library's `copy_from_slice` goes by `memmove`, a name that an archive for a host without a C library would then need too.
+        for (i, b) in src.iter().enumerate() {
+            to[i] = *b;
+        }
         self.at = end;
     }
 }
