@@ -23,10 +23,11 @@ use Rattle.session.specs.declared.errors.ClientSessionError.TheVariants.{Session
 use Rattle.session.specs.declared.record.Called.{Called}
 use Rattle.session.specs.declared.record.ClientSession.{ClientSession}
 use Rattle.session.specs.declared.result.Outcome.{Outcome}
-use Rattle.session.specs.declared.result.Outcome.TheVariants.{Pinged}
+use Rattle.session.specs.declared.result.Outcome.TheVariants.{Pinged, One}
+use Rattle.session.specs.declared.result.ClientSessionResult.TheVariants.{OutboundResponse}
 use Rattle.session.specs.declared.result.Packet.{Packet}
 use Rattle.session.specs.declared.state.ClientState.{ClientState}
-use Rattle.session.proofs.StepLaws.{err_is, no_room, done-length, away_13, does_as, away, order_hit, order_miss, order-end, as-after, quiet-goes, goes_short, goes_done}
+use Rattle.session.proofs.StepLaws.{err_is, no_room, done-length, away_13, does_as, away, order_hit, order_miss, order-end, as-after, quiet-goes, goes_short, goes_done, sent_short, sent-done}
 
 -- a text that refusal 9 doesn't meet can be written
 pub fits-short : (t : List ℕ) → fits t ≡ true → length t < 2 ^ 16
@@ -98,6 +99,27 @@ module _ {s : ClientSession} {clock : RtmpTimestamp} {c : Call} {old : List ℕ}
 
   pub not-given : {x : StreamNumber} {r : Called} → l ≡ Ok x → given.when ≡ true → r ≡ refused_with s given.says → Does s clock c old r old
   not-given h k q = on-stream h (order_hit _ _ _ _ k q)
+
+-- what a message that was written, or had no space, answers
+abbrev pub sent_as : ClientSession → ℕ → RtmpTimestamp → StreamNumber → Bool → Result ℕ NoSpace → Called
+sent_as s k t x d (Ok n) = called (Ok (One (OutboundResponse (packet_of k t x d n)))) s
+sent_as s k t x d (Err e) = refused_with s Space
+
+module _ {s : ClientSession} (clock : RtmpTimestamp) {old : List ℕ} {r : Called} {t : Bool} (p : t ≡ is_publishing s.progress.state) (b : Bool) (e : ClientSessionError) where
+  pub published-goes : (k : ℕ) (time : RtmpTimestamp) (d : Bool) {x : StreamNumber} {body exit : List ℕ} {w : Result ℕ NoSpace}
+      → not t ≡ false → s.progress.active ≡ Some x → b ≡ false → Written old body exit w → r ≡ sent_as s k time x d w
+      → Comes s (published s clock (record { when = b; says = e })
+      (λ y. record { type_id = k; time = time; stream = y; droppable = d; uncompressed = false; body = body })) old r exit
+  unfolding published
+  published-goes k time d {x} {body} {exit} {w} h i g v q =
+      let m : StreamNumber → Message = λ y. record { type_id = k; time = time; stream = y; droppable = d; uncompressed = false; body = body } in
+      let j : not (is_publishing s.progress.state) ≡ false = rw (← p) h in
+      order_miss _ _ _ _ j (order-end _ (by_case (published_on s clock (record { when = b; says = e }) m) i (order_miss _ _ _ _ g (order-end _ (sent w v q)))))
+    where
+      sent : (w : Result ℕ NoSpace) → Written old body exit w → r ≡ sent_as s k time x d w
+          → Comes s (go (one (sends (record { type_id = k; time = time; stream = x; droppable = d; uncompressed = false; body = body }))) s) old r exit
+      sent (Ok n) v q = rw q (sent-done v refl refl)
+      sent (Err c) v q = rw q (sent_short v refl refl)
 
 -- ---- a byte count
 module _ (s : ClientSession) (clock : RtmpTimestamp) (n : ℕ) {total : ℕ} (sum : total ≡ (s.link.total + n) % 2 ^ 64) where
