@@ -33,16 +33,31 @@ fn go_on(run: &mut Run<'_>, input: &mut Input<'_>) -> io::Result<()> {
     Ok(())
 }
 
-// A line has at most 2,097,407 bytes and a body 1,048,576, so that such a body's digits fit a line; a longer line or body isn't run. `out` is lent
-// to the calls, and results wait in `text`. What is lent lies in arrays, since no heap is used.
+// A line longer than `buf`, or a body longer than `body`, isn't run; `out` is lent to the calls, and results wait in `text`.
+pub fn run_in(
+    stdin: Stdin,
+    stdout: Stdout,
+    stderr: Stderr,
+    telling: Telling,
+    buf: &mut [u8],
+    body: &mut [u8],
+    out: &mut [u8],
+    text: &mut [u8],
+) {
+    let mut input = Input::new(stdin, buf);
+    let mut run = Run::new(telling, Output::new(stdout, stderr, text), body, out);
+    // What failed has been told of.
+    let _ = go_on(&mut run, &mut input);
+}
+
+// `run_in` with arrays of its own, as no heap is used: a line has at most 2,097,407 bytes and a body 1,048,576, so that such a body's digits fit a
+// line.
 pub fn run(stdin: Stdin, stdout: Stdout, stderr: Stderr, telling: Telling) {
     let mut buf = [0u8; 2097408];
     let mut body = [0u8; 1048576];
     let mut out = [0u8; 1048576];
     let mut text = [0u8; 65536];
-    let mut input = Input::new(stdin, &mut buf);
-    let output = Output::new(stdout, stderr, &mut text);
-    let mut run = Run::new(telling, output, &mut body, &mut out);
-    // What failed has been told of.
-    let _ = go_on(&mut run, &mut input);
+    run_in(
+        stdin, stdout, stderr, telling, &mut buf, &mut body, &mut out, &mut text,
+    );
 }
