@@ -1,5 +1,5 @@
 // What a call answered, and the record, written out.
-use case_lines::{Hex, OrWord};
+use case_lines::{Hex, OrDash, OrWord};
 use messages::PublishRequestType;
 use requests::{OutstandingTransaction, Place, Text, TransactionPurpose};
 use session::{ClientSession, ClientSessionError, ClientSessionResult, Outcome, Packet};
@@ -12,6 +12,11 @@ pub struct Shown<'a, T>(pub &'a T);
 // The settings of a record: flash version; buffer length, window size and chunk size; tcUrl, `-` where none is configured.
 #[derive(Debug, PartialEq, Eq, Clone, Copy)]
 pub struct Settings<'a>(pub &'a ClientSession);
+
+// A flag goes out with its space.
+fn flag(b: bool) -> &'static str {
+    if b { " 1" } else { " 0" }
+}
 
 // The number of document 01's table, and behind 2 the stage.
 impl fmt::Display for Shown<'_, ClientSessionError> {
@@ -36,10 +41,11 @@ impl fmt::Display for Shown<'_, Packet> {
             len,
         } = *self.0;
         let (time, stream) = (time.0, stream.0);
-        let (droppable, uncompressed) = (u8::from(droppable), u8::from(uncompressed));
+        let (droppable, uncompressed) = (flag(droppable), flag(uncompressed));
+        f.write_str("out")?;
         write!(
             f,
-            "out {type_id} {time} {stream} {droppable} {uncompressed} {start} {len}"
+            " {type_id} {time} {stream}{droppable}{uncompressed} {start} {len}"
         )
     }
 }
@@ -57,7 +63,10 @@ impl fmt::Display for Shown<'_, ClientSessionResult> {
 impl fmt::Display for Shown<'_, Result<Outcome, ClientSessionError>> {
     fn fmt<W: fmt::Write>(&self, f: &mut fmt::Formatter<W>) -> fmt::Result {
         match self.0 {
-            Err(e) => write!(f, "refused {}", Shown(e)),
+            Err(e) => {
+                f.write_str("refused")?;
+                write!(f, " {}", Shown(e))
+            }
             Ok(Outcome::Nothing) => f.write_str("none"),
             Ok(Outcome::One(r)) => write!(f, "{}", Shown(r)),
             Ok(Outcome::Two(_, _)) => f.write_str("two"),
@@ -79,16 +88,17 @@ impl fmt::Display for Shown<'_, Text> {
     }
 }
 
+// The word goes out with the spaces around it.
 impl fmt::Display for Shown<'_, OutstandingTransaction> {
     fn fmt<W: fmt::Write>(&self, f: &mut fmt::Formatter<W>) -> fmt::Result {
         f.write_str(match self.0 {
-            OutstandingTransaction::ConnectionRequested => "connect",
-            OutstandingTransaction::CreateStream(TransactionPurpose::PlayRequest) => "play",
+            OutstandingTransaction::ConnectionRequested => " connect ",
+            OutstandingTransaction::CreateStream(TransactionPurpose::PlayRequest) => " play ",
             OutstandingTransaction::CreateStream(TransactionPurpose::PublishRequest(t)) => {
                 match t {
-                    PublishRequestType::Live => "live",
-                    PublishRequestType::Record => "record",
-                    PublishRequestType::Append => "append",
+                    PublishRequestType::Live => " live ",
+                    PublishRequestType::Record => " record ",
+                    PublishRequestType::Append => " append ",
                 }
             }
         })
@@ -116,7 +126,7 @@ impl fmt::Display for Shown<'_, [Place; 8]> {
                 }
                 is_none = false;
                 let text = Shown(&place.text);
-                write!(f, "{} {} {text}", number.0, Shown(&transaction))?;
+                write!(f, "{}{}{text}", number.0, Shown(&transaction))?;
             }
         }
         if is_none {
@@ -132,13 +142,13 @@ impl fmt::Display for Shown<'_, ClientSession> {
         let session = self.0;
         write!(
             f,
-            "{} {} {}\t{}\t{} {} {} {}",
+            "{}{} {}\t{}\t{}{} {} {}",
             u8::from(session.progress.state),
-            OrWord(session.progress.active.map(|stream| stream.0), "-"),
+            OrDash(session.progress.active.map(|stream| stream.0)),
             session.requests.next,
             Shown(&session.requests.places),
             session.link.chunk,
-            OrWord(session.link.window, "-"),
+            OrDash(session.link.window),
             session.link.pending,
             session.link.total
         )

@@ -1,7 +1,7 @@
 // Hexadecimal read and written.
 ghost use Rattle.std.specs.Prelude.{◌<◌, ◌≤◌, length};
 
-use std::fmt;
+use std::{fmt, str};
 
 fn nibble(b: u8) -> u8
     ensures { result < 16 }
@@ -39,19 +39,32 @@ pub struct Hex<'a>(pub &'a [u8]);
 impl fmt::Display for Hex<'_> {
     fn fmt<W: fmt::Write>(&self, f: &mut fmt::Formatter<W>) -> fmt::Result {
         for b in self.0 {
-            write!(f, "{b:02x}")?;
+            write!(f, "{}", Digits(u64::from(*b), 2))?;
         }
         Ok(())
     }
 }
 
-// A number that prints in at least so many digits.
+const DIGITS: [u8; 16] = *b"0123456789abcdef";
+
+// A number that prints in at least so many digits. Where these are at most 16, they and the zeros in front are one piece.
 #[derive(Debug, PartialEq, Eq, Clone, Copy)]
 pub struct Digits(pub u64, pub usize);
 
 impl fmt::Display for Digits {
     fn fmt<W: fmt::Write>(&self, f: &mut fmt::Formatter<W>) -> fmt::Result {
         let Digits(n, width) = *self;
-        write!(f, "{n:0width$x}")
+        if width > 16 {
+            return write!(f, "{n:0width$x}");
+        }
+        let mut digits = [b'0'; 16];
+        let mut rest = n;
+        for d in digits.iter_mut().rev() {
+            *d = DIGITS[(rest % 16) as usize];
+            rest /= 16;
+        }
+        let first = digits.iter().position(|d| *d != b'0').unwrap_or(15);
+        let text = &digits[first.min(16 - width)..];
+        f.write_str(str::from_utf8(text).map_err(|_| fmt::Error)?)
     }
 }

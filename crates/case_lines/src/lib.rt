@@ -1,5 +1,5 @@
 // What the programs `cases` and `calls` share: the input read whole, hexadecimal, a cursor over the bytes of a case, what both read with
-// it, an output that waits in fixed memory, and a writer that goes on where a write fails.
+// it, and a writer that goes on where a write fails. Beside these, an output that waits in fixed memory.
 #![tactic(auto)]
 
 mod cursor;
@@ -16,4 +16,4 @@ pub use hexadecimal::{Digits, Hex, decode};
 pub use ignoring::IgnoreErrors;
 pub use input::read_full;
 pub use waiting::Output;
-pub use words::OrWord;
+pub use words::{OrDash, OrWord};

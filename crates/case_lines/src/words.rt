@@ -13,3 +13,16 @@ impl<T: fmt::Display> fmt::Display for OrWord<'_, T> {
         }
     }
 }
+
+// Prints a space and the value, or ` -` in one piece where there is none.
+#[derive(Debug, PartialEq, Eq, Clone, Copy)]
+pub struct OrDash<T>(pub Option<T>);
+
+impl<T: fmt::Display> fmt::Display for OrDash<T> {
+    fn fmt<W: fmt::Write>(&self, f: &mut fmt::Formatter<W>) -> fmt::Result {
+        match &self.0 {
+            Some(x) => write!(f, " {x}"),
+            None => f.write_str(" -"),
+        }
+    }
+}

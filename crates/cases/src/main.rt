@@ -9,7 +9,7 @@ mod shown;
 mod values;
 mod writing;
 
-use case_lines::{IgnoreErrors, Output};
+use case_lines::IgnoreErrors;
 use std::io;
 use std::io::Write;
 
@@ -48,10 +48,10 @@ fn run<W: Write>(to: &mut W, text: &[u8]) -> io::Result<()> {
     to.flush()
 }
 
-// A write that fails is passed over, so that nothing is left for `run` to tell of.
+// Each word and each number of a result is a write of its own. One that fails is passed over, so that nothing is left for `run` to tell of.
 fn main(rt: HostRuntime) {
     // The whole input lies in an array, since no heap is used.
     let mut space = [0u8; 2097152];
     let text = case_lines::read_full(&mut rt.stdin(), &mut space);
-    let _ = run(&mut IgnoreErrors(Output::new(rt.stdout())), text);
+    let _ = run(&mut IgnoreErrors(rt.stdout()), text);
 }

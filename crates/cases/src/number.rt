@@ -9,14 +9,12 @@ pub fn case<W: Write>(to: &mut W, given: &[u8]) -> io::Result<()> {
         return write!(to, "short");
     };
     let held = numbers::hold(bits);
-    let again = numbers::number_of(held);
+    let again = Digits(numbers::number_of(held), 16);
     let single = numbers::narrow_bits(bits);
-    let by_pattern = numbers::widen_bits(single);
-    let by_value = numbers::widen(numbers::narrow(bits));
-    write!(
-        to,
-        "{held}\t{again:016x}\t{single:08x}\t{by_pattern:016x}\t{by_value:016x}"
-    )
+    let by_pattern = Digits(numbers::widen_bits(single), 16);
+    let by_value = Digits(numbers::widen(numbers::narrow(bits)), 16);
+    let single = Digits(u64::from(single), 8);
+    write!(to, "{held}\t{again}\t{single}\t{by_pattern}\t{by_value}")
 }
 
 // The Number of a single, by its pattern.

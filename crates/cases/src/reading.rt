@@ -1,7 +1,7 @@
 // Message bodies: what a body of a type says.
 use crate::shown::{Shown, rate};
 use amf0::Malformed;
-use case_lines::OrWord;
+use case_lines::{Digits, OrDash, OrWord};
 use messages::{
     Argument, Command, CommandName, DataMessage, OnStatus, PeerBandwidthLimitType, RtmpMessage,
     StreamMetadata, UserControlEvent,
@@ -9,12 +9,23 @@ use messages::{
 use std::io::Write;
 use std::{fmt, io};
 
+// A word and what follows it. The word goes out without the space behind it.
+#[derive(Debug, PartialEq, Eq, Clone, Copy)]
+struct Said<'a, T>(&'a str, T);
+
+impl<T: fmt::Display> fmt::Display for Said<'_, T> {
+    fn fmt<W: fmt::Write>(&self, f: &mut fmt::Formatter<W>) -> fmt::Result {
+        write!(f, "{} {}", self.0, self.1)
+    }
+}
+
+// A word that follows others goes out with its space.
 impl fmt::Display for Shown<PeerBandwidthLimitType> {
     fn fmt<W: fmt::Write>(&self, f: &mut fmt::Formatter<W>) -> fmt::Result {
         f.write_str(match self.0 {
-            PeerBandwidthLimitType::Hard => "hard",
-            PeerBandwidthLimitType::Soft => "soft",
-            PeerBandwidthLimitType::Dynamic => "dynamic",
+            PeerBandwidthLimitType::Hard => " hard",
+            PeerBandwidthLimitType::Soft => " soft",
+            PeerBandwidthLimitType::Dynamic => " dynamic",
         })
     }
 }
@@ -22,15 +33,15 @@ impl fmt::Display for Shown<PeerBandwidthLimitType> {
 impl fmt::Display for Shown<UserControlEvent> {
     fn fmt<W: fmt::Write>(&self, f: &mut fmt::Formatter<W>) -> fmt::Result {
         match self.0 {
-            UserControlEvent::StreamBegin(x) => write!(f, "begin {}", x.0),
-            UserControlEvent::StreamEof(x) => write!(f, "eof {}", x.0),
-            UserControlEvent::StreamDry(x) => write!(f, "dry {}", x.0),
+            UserControlEvent::StreamBegin(x) => write!(f, "{}", Said("begin", x.0)),
+            UserControlEvent::StreamEof(x) => write!(f, "{}", Said("eof", x.0)),
+            UserControlEvent::StreamDry(x) => write!(f, "{}", Said("dry", x.0)),
             UserControlEvent::SetBufferLength { stream, length } => {
-                write!(f, "buffer {} {length}", stream.0)
+                write!(f, "{} {length}", Said("buffer", stream.0))
             }
-            UserControlEvent::StreamIsRecorded(x) => write!(f, "recorded {}", x.0),
-            UserControlEvent::PingRequest(t) => write!(f, "ping {}", t.0),
-            UserControlEvent::PingResponse(t) => write!(f, "pong {}", t.0),
+            UserControlEvent::StreamIsRecorded(x) => write!(f, "{}", Said("recorded", x.0)),
+            UserControlEvent::PingRequest(t) => write!(f, "{}", Said("ping", t.0)),
+            UserControlEvent::PingResponse(t) => write!(f, "{}", Said("pong", t.0)),
         }
     }
 }
@@ -38,10 +49,10 @@ impl fmt::Display for Shown<UserControlEvent> {
 impl fmt::Display for Shown<CommandName> {
     fn fmt<W: fmt::Write>(&self, f: &mut fmt::Formatter<W>) -> fmt::Result {
         f.write_str(match self.0 {
-            CommandName::Result => "result",
-            CommandName::Error => "error",
-            CommandName::OnStatus => "onstatus",
-            CommandName::Other => "other",
+            CommandName::Result => "command result",
+            CommandName::Error => "command error",
+            CommandName::OnStatus => "command onstatus",
+            CommandName::Other => "command other",
         })
     }
 }
@@ -49,9 +60,9 @@ impl fmt::Display for Shown<CommandName> {
 impl fmt::Display for Shown<Argument> {
     fn fmt<W: fmt::Write>(&self, f: &mut fmt::Formatter<W>) -> fmt::Result {
         match self.0 {
-            Argument::Number(bits) => write!(f, "number {bits:016x}"),
-            Argument::Object => f.write_str("object"),
-            Argument::Other => f.write_str("other"),
+            Argument::Number(bits) => write!(f, " number {}", Digits(bits, 16)),
+            Argument::Object => f.write_str(" object"),
+            Argument::Other => f.write_str(" other"),
         }
     }
 }
@@ -59,9 +70,9 @@ impl fmt::Display for Shown<Argument> {
 impl fmt::Display for Shown<OnStatus> {
     fn fmt<W: fmt::Write>(&self, f: &mut fmt::Formatter<W>) -> fmt::Result {
         match self.0 {
-            OnStatus::PlayStart => f.write_str("play"),
-            OnStatus::PublishStart => f.write_str("publish"),
-            OnStatus::Other(place) => write!(f, "other {}", Shown(place)),
+            OnStatus::PlayStart => f.write_str(" play"),
+            OnStatus::PublishStart => f.write_str(" publish"),
+            OnStatus::Other(place) => write!(f, "{}", Said(" other", Shown(place))),
         }
     }
 }
@@ -69,15 +80,12 @@ impl fmt::Display for Shown<OnStatus> {
 // The code follows where the command is an onStatus with an object as its first argument.
 fn command<W: Write>(to: &mut W, c: Command, body: &[u8]) -> io::Result<()> {
     let (name, place) = (Shown(c.name), Shown(c.name_at));
-    let first = OrWord(c.first.map(Shown), "absent");
-    let (number, object, args) = (c.number, c.object, c.args);
-    write!(
-        to,
-        "command {name} {place} {number:016x} {object} {args} {first}"
-    )?;
+    let first = OrWord(c.first.map(Shown), " absent");
+    let (number, object, args) = (Digits(c.number, 16), c.object, c.args);
+    write!(to, "{name} {place} {number} {object} {args}{first}")?;
     if let (CommandName::OnStatus, Some(Argument::Object)) = (c.name, c.first) {
         let code = messages::on_status_code(body, args);
-        write!(to, " {}", OrWord(code.map(Shown), "invalid"))?;
+        write!(to, "{}", OrWord(code.map(Shown), " invalid"))?;
     }
     Ok(())
 }
@@ -85,17 +93,17 @@ fn command<W: Write>(to: &mut W, c: Command, body: &[u8]) -> io::Result<()> {
 fn fields<W: Write>(to: &mut W, m: StreamMetadata) -> io::Result<()> {
     write!(
         to,
-        " {} {} {} {} {} {} {} {} {} {}",
-        OrWord(m.video_width, "-"),
-        OrWord(m.video_height, "-"),
-        OrWord(m.video_codec_id, "-"),
-        OrWord(m.video_frame_rate.map(rate), "-"),
-        OrWord(m.video_bitrate_kbps, "-"),
-        OrWord(m.audio_codec_id, "-"),
-        OrWord(m.audio_bitrate_kbps, "-"),
-        OrWord(m.audio_sample_rate, "-"),
-        OrWord(m.audio_channels, "-"),
-        OrWord(m.audio_is_stereo.map(u8::from), "-")
+        "{}{}{}{}{}{}{}{}{}{}",
+        OrDash(m.video_width),
+        OrDash(m.video_height),
+        OrDash(m.video_codec_id),
+        OrDash(m.video_frame_rate.map(rate)),
+        OrDash(m.video_bitrate_kbps),
+        OrDash(m.audio_codec_id),
+        OrDash(m.audio_bitrate_kbps),
+        OrDash(m.audio_sample_rate),
+        OrDash(m.audio_channels),
+        OrDash(m.audio_is_stereo.map(u8::from))
     )?;
     match m.encoder {
         Some(place) => write!(to, " {},{}", place.start, place.len),
@@ -106,22 +114,22 @@ fn fields<W: Write>(to: &mut W, m: StreamMetadata) -> io::Result<()> {
 fn show<W: Write>(to: &mut W, m: RtmpMessage, body: &[u8]) -> io::Result<()> {
     match m {
         RtmpMessage::Unknown => write!(to, "unknown"),
-        RtmpMessage::Abort(n) => write!(to, "abort {n}"),
-        RtmpMessage::Acknowledgement(n) => write!(to, "ack {n}"),
+        RtmpMessage::Abort(n) => write!(to, "{}", Said("abort", n)),
+        RtmpMessage::Acknowledgement(n) => write!(to, "{}", Said("ack", n)),
         RtmpMessage::Amf0Command(c) => command(to, c, body),
         RtmpMessage::Amf0Data(DataMessage::OnMetaData(at)) => {
-            write!(to, "metadata {at}")?;
+            write!(to, "{}", Said("metadata", at))?;
             fields(to, messages::read_metadata(body, at))
         }
         RtmpMessage::Amf0Data(DataMessage::Other) => write!(to, "data"),
         RtmpMessage::AudioData => write!(to, "audio"),
-        RtmpMessage::SetChunkSize(n) => write!(to, "chunk {n}"),
+        RtmpMessage::SetChunkSize(n) => write!(to, "{}", Said("chunk", n)),
         RtmpMessage::SetPeerBandwidth { size, limit } => {
-            write!(to, "bandwidth {size} {}", Shown(limit))
+            write!(to, "{}{}", Said("bandwidth", size), Shown(limit))
         }
         RtmpMessage::UserControl(e) => write!(to, "{}", Shown(e)),
         RtmpMessage::VideoData => write!(to, "video"),
-        RtmpMessage::WindowAcknowledgement(n) => write!(to, "window {n}"),
+        RtmpMessage::WindowAcknowledgement(n) => write!(to, "{}", Said("window", n)),
     }
 }
 

@@ -1,7 +1,7 @@
 // AMF0: what stands at the start of a body.
 use crate::shown::Shown;
 use amf0::Kind;
-use case_lines::{Hex, OrWord};
+use case_lines::{Digits, Hex, OrWord};
 use octets::Span;
 use std::io::Write;
 use std::{fmt, io};
@@ -9,7 +9,7 @@ use std::{fmt, io};
 impl fmt::Display for Shown<Kind> {
     fn fmt<W: fmt::Write>(&self, f: &mut fmt::Formatter<W>) -> fmt::Result {
         match self.0 {
-            Kind::Number(bits) => write!(f, "number {bits:016x}"),
+            Kind::Number(bits) => write!(f, "number {}", Digits(bits, 16)),
             Kind::Boolean(b) => write!(f, "boolean {}", u8::from(b)),
             Kind::Text(place) => write!(f, "text {}", Shown(place)),
             Kind::Object => f.write_str("object"),
